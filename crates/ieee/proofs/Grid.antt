@@ -28,7 +28,7 @@ pub record OnGrid (f : Format) (w : Float) : Type 0 where
   pub digits : n < 2 ^ prec f
   pub reach : n * 2 ^ j ≤ overflow f
 
-pow-le-back : (a l : ℕ) → 2 ^ a ≤ 2 ^ l → a ≤ l
+pub pow-le-back : (a l : ℕ) → 2 ^ a ≤ 2 ^ l → a ≤ l
 pow-le-back a l h = le-of-suc-le-suc (lt-of-not-le (λ (g : suc l ≤ a). lt-irrefl (2 ^ l) (lt-of-lt-of-le (pow-lt g) h)))
 
 -- m * 2 ^ e is m * 2 ^ j times 2 ^ -l

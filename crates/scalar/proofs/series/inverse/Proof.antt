@@ -1,0 +1,16 @@
+-- `scalar::series::inverse` meets its contract. Assumes nothing.
+use mathlib.Core.Path.{refl}
+use Rattle.scalar.specs.Series.{inv}
+use borrow.Author.Needs.{needs}
+use Rattle.scalar.proofs.series.inverse.Statement.{statement}
+use Rattle.scalar.proofs.series.inverse.Tie as tie
+
+int-to-float-result : tie.Need-int-to-float-result
+int-to-float-result c = search needs
+
+returns : tie.Need-returns
+unfolding inv
+returns c = refl
+
+pub inverse-spec : {M : Type 1} → statement M
+inverse-spec = tie.close (tie.spec int-to-float-result returns)

@@ -1,0 +1,63 @@
+-- 01's exp and 10 to the y. Definitions only.
+use Prim.Native.Nat.{ℕ, _≤_}
+use mathlib.Core.Bool.{false, cond}
+use mathlib.Core.List.{List, [], _∷_}
+use lib.IntN.{ℤ, pos, negsuc}
+use lib.Ieee as Ieee
+use lib.Ieee.{Float, nan, inf, fin, neg}
+use Rattle.scalar.specs.Operators.{_⊖_, _⊗_, _⊘_, bits, int}
+use Rattle.scalar.specs.Constants.{plusZero, ln2, ln2High, ln2Low}
+use Rattle.scalar.specs.Whole.{nearestOf}
+use Rattle.scalar.specs.Series.{horner, invFact}
+
+-- k = nearest of x / 3FE62E42FEFA39EF
+unfoldable pub expCount : Float → ℤ
+expCount x = nearestOf (x ⊘ ln2)
+
+-- r = (x − k × 3FE62E42FEE00000) − k × 3DEA39EF35793C76
+unfoldable pub expRest : Float → ℤ → Float
+expRest x k = (x ⊖ int k ⊗ ln2High) ⊖ int k ⊗ ln2Low
+
+-- the series in r of 1/j! for j = 0 to 13
+unfoldable pub expSeries : Float → Float
+expSeries r =
+    horner r (invFact 0)
+    (invFact 1
+    ∷ invFact 2
+    ∷ invFact 3
+    ∷ invFact 4
+    ∷ invFact 5
+    ∷ invFact 6
+    ∷ invFact 7
+    ∷ invFact 8
+    ∷ invFact 9
+    ∷ invFact 10
+    ∷ invFact 11
+    ∷ invFact 12
+    ∷ invFact 13
+    ∷ [])
+
+-- 2 to the k
+abbrev pub pow2 : ℤ → Float
+pow2 k = fin false 1 k
+
+-- the k for which 2 to the k is a normal number: from -1022 to 1023
+abbrev pub Scale : ℤ → Type 0
+Scale (pos n) = n ≤ 1023
+Scale (negsuc n) = n ≤ 1021
+
+-- the series in r, times 2 to the k
+unfoldable pub expMain : Float → ℤ → Float
+expMain x k = expSeries (expRest x k) ⊗ pow2 k
+
+-- above 709 +infinity, below −708 +0, NaN to NaN
+unfoldable pub expOf : Float → Float
+expOf x =
+    cond (Ieee.lt (bits 0x4086280000000000) x) (inf false)
+    (cond (Ieee.lt x (neg (bits 0x4086200000000000))) plusZero
+    (cond (Ieee.isNan x) nan
+    (expMain x (expCount x))))
+
+-- 10 to the y is exp(y × 40026BB1BBB55516)
+unfoldable pub pow10Of : Float → Float
+pow10Of y = expOf (y ⊗ bits 0x40026BB1BBB55516)
