@@ -9,20 +9,13 @@ use native.Mathlib.Omega.{arith}
 use lib.IntN.{ℤ}
 use lib.Dec.{T}
 use lib.Pow.{pow-add, pow-pos, pow-mono, pow-lt}
-use lib.Ieee.{Float, nan, inf, fin, Format, prec, emax, low, up, down, odd, round, fits}
+use lib.Ieee.{Float, nan, inf, fin, Format, prec, emax, low, up, down, odd, fits}
 use lib.Ieee.Exact.{odd-sign}
 use lib.Ieee.Fits.{two, two-le-pos, odd-fits, inf-fits, down-pos}
-use Rattle.ieee.specs.Nearest.{Real, fraction, num, den, HasSign, Smaller, midNum, midDen, Even, Nearest}
+use Rattle.ieee.specs.Nearest.{Real, fraction, num, den, HasSign, Smaller, midNum, midDen, edgeNum, edgeDen, Even, Nearest}
 use Rattle.ieee.proofs.Grid.{OnGrid, on-grid, fits-below, den-pos, overflow, Leading, Lawful, next-up, or-lt, order, middle, signed, counted}
-use Rattle.ieee.proofs.Fractions.{fraction-lawful, round-nearest, spare, spare-is, inf-value}
+use Rattle.ieee.proofs.Fractions.{fraction-lawful, spare, spare-is, inf-value}
 use Rattle.ieee.proofs.Unique.{Cut, fraction-cut, back-order, not-next}
-
--- 2 ^ emax * (2 - 2 ^ -prec) as a fraction
-abbrev pub edgeNum : Format → ℕ
-edgeNum f = 2 ^ emax f * (2 ^ suc (prec f) - 1)
-
-abbrev pub edgeDen : Format → ℕ
-edgeDen f = 2 ^ prec f
 
 -- ---- the largest significand
 module _ (p : ℕ) (P : 2 ≤ p) where
@@ -185,9 +178,10 @@ module _ (f : Format) where
         finite : (a b : ℕ) → a < b → a * 1 < b
         finite a b h = omega arith
 
--- `round` overflows exactly where the fraction is 2 ^ emax * (2 - 2 ^ -prec) or more
-pub round-overflows : (f : Format) (s : Bool) (a b : ℕ) → 0 < b → (edgeNum f * b ≤ a * edgeDen f → round f s a b ≡ inf s) × (round f s a b ≡ inf s → edgeNum f * b ≤ a * edgeDen f)
-round-overflows f s a b B = (
-  overflows f s (fraction a b) (fraction-lawful a b) (fraction-cut a b B) (round f s a b) (round-nearest f s a b B),
-  λ e. overflows-back f s (fraction a b) (fraction-lawful a b) (fraction-cut a b B) (subst (λ (r : Float). Nearest f (fraction a b) s r) e (round-nearest f s a b B)),
+-- what is nearest to a fraction is an infinity exactly where the fraction is 2 ^ emax * (2 - 2 ^ -prec) or more
+pub nearest-overflows : (f : Format) (s : Bool) (a b : ℕ) (r : Float) → 0 < b → Nearest f (fraction a b) s r
+    → (edgeNum f * b ≤ a * edgeDen f → r ≡ inf s) × (r ≡ inf s → edgeNum f * b ≤ a * edgeDen f)
+nearest-overflows f s a b r B n = (
+  overflows f s (fraction a b) (fraction-lawful a b) (fraction-cut a b B) r n,
+  λ e. overflows-back f s (fraction a b) (fraction-lawful a b) (fraction-cut a b B) (subst (λ (z : Float). Nearest f (fraction a b) s z) e n),
 )

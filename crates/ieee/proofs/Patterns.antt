@@ -2,16 +2,18 @@
 use mathlib.Core.Path.{_≡_, refl, sym, ap, _∙_, subst}
 use mathlib.Core.Logic.{_⊎_, inl, inr}
 use Prim.Native.Nat.{ℕ, zero, suc, _+_, _-_, _*_, _/_, _%_, _^_, _≤_, _<_}
-use native.Mathlib.Nat.{not-le-of-lt, le-of-lt, mod-eq-of-lt, mul-assoc, mul-one, mul-pos, lt-irrefl, zero-lt-suc}
+use native.Mathlib.Nat.{not-le-of-lt, le-of-lt, le-of-eq, le-trans, mod-eq-of-lt, mul-assoc, mul-one, mul-pos, lt-irrefl, zero-lt-suc}
 use lib.Pow.{pow-add, pow-pos}
 use native.Mathlib.Omega.{arith}
 use mathlib.Core.Bool.{Bool, true, false, not, cond, true≢false}
 use lib.IntN.{pos}
 use lib.Dec.{T, leb, ltb, eqb, leb→le, eqb→eq, not-T, T-not, lt→ltb, ltb→lt, nltb→le, nleb→lt}
 use lib.Arith.{lt→nleb, le→nltb}
-use lib.Ieee.{Float, nan, inf, fin, binary64, up, down, odd, ofFields, ofBits, toBits, fits, lt, isNan, nanBits}
-use lib.Ieee.Bits.{is-false, cond-no, ofBits-fits, ofBits-toBits, nanBits-above}
+use lib.Ieee.{Float, nan, inf, fin, binary64, up, down, odd, ofFields, ofBits, toBits, fits, lt, ne, isNan, nanBits}
+use lib.Ieee.Bits.{is-false, cond-no, ofBits-fits, ofBits-toBits, nanBits-is, nanBits-above}
+use lib.Ieee.Compare.{differs-from-itself, nan-differs}
 use lib.Ieee.Exact.{HasValue, odd-sign}
+use borrow.Author.Tests.{lt-ltb}
 use lib.Ieee.Fits.{down-pos, up-pos}
 use Rattle.ieee.specs.Nearest.{Nearest, root}
 use Rattle.ieee.specs.Sqrt.{Sqrt}
@@ -164,10 +166,12 @@ pub bits-pos : (x : Float) (b : ℕ) → ofBits binary64 b ≡ x → T (lt (fin 
 bits-pos x zero e h = absurd (not-above (subst (λ (z : Float). T (lt (fin false 0 (pos 0)) z)) (sym e ∙ zero-bits) h))
 bits-pos x (suc b) e h = zero-lt-suc b
 
--- a pattern below the infinity's is no NaN's, and so is what the steps make
+-- a pattern whose magnitude is at most the infinity's is no NaN's, and so is what the steps make
+pub number-pattern : (b : ℕ) → b % 2 ^ 63 ≤ 2047 * 2 ^ 52 → T (not (nanBits binary64 b))
+number-pattern b l = subst (λ (t : Bool). T (not t)) (sym (nanBits-above binary64 b)) (le→nltb (2047 * 2 ^ 52) (b % 2 ^ 63) l)
+
 pub below-no-nan : (b : ℕ) → b < 2047 * 2 ^ 52 → T (not (nanBits binary64 b))
-below-no-nan b l =
-    subst (λ (t : Bool). T (not t)) (sym (nanBits-above binary64 b ∙ ap (λ (z : ℕ). ltb (2047 * 2 ^ 52) z) (mod-eq-of-lt (no-sign b l)))) (le→nltb (2047 * 2 ^ 52) b (le-of-lt l))
+below-no-nan b l = number-pattern b (le-trans (le-of-eq (mod-eq-of-lt (no-sign b l))) (le-of-lt l))
 
 pub no-nan : (r N : ℕ) → Rooted N r → T (not (nanBits binary64 r))
 no-nan r N g = below-no-nan r (subst (λ (z : ℕ). z < 2047 * 2 ^ 52) (sym (g .bits)) (made-hi (g .k) (g .q) (g .most) (g .exponent)))
@@ -277,3 +281,22 @@ no-nan-made b r s g = go (ltb b (2 ^ 52)) (ltb→lt b (2 ^ 52)) (nltb→le b (2 
     go : (t : Bool) → (T t → b < 2 ^ 52) → (T (not t) → 2 ^ 52 ≤ b) → T (not (nanBits binary64 r))
     go true l h = no-nan r (b * 2 ^ 52) (s (l tt))
     go false l h = no-nan r ((2 ^ 52 + b % 2 ^ 52) * 2 ^ (b / 2 ^ 52 + 51)) (g (h tt))
+
+-- ---- every pattern: a NaN's, or that of a number
+is-nan : (x : Float) → isNan x ≡ true → x ≡ nan
+unfolding isNan
+is-nan nan e = refl
+is-nan (inf s) e = absurd (true≢false (sym e))
+is-nan (fin s m d) e = absurd (true≢false (sym e))
+
+pub nan-pattern : (b : ℕ) → 2047 * 2 ^ 52 < b % 2 ^ 63 → ofBits binary64 b ≡ nan
+nan-pattern b l = is-nan (ofBits binary64 b) (sym (nanBits-is binary64 b) ∙ nanBits-above binary64 b ∙ lt-ltb (2047 * 2 ^ 52) (b % 2 ^ 63) l)
+
+pub differs-nan : (x : Float) → ne x x ≡ true → x ≡ nan
+differs-nan x t = differs-from-itself x (subst T (sym t) tt)
+
+pub same-number : (x : Float) → ne x x ≡ false → T (not (isNan x))
+unfolding isNan
+same-number nan t = absurd (true≢false (sym nan-differs ∙ t))
+same-number (inf s) t = tt
+same-number (fin s m e) t = tt

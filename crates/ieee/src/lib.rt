@@ -1,6 +1,10 @@
 // What IEEE 754 asks of arithmetic and square root stands in specs/; that the language's own +, -, * and / meet it,
 // at both formats, is proved in proofs/Arithmetic.antt. Here is the square root, which the language lacks: digit by
 // digit from the bit pattern, by shifts, comparisons, additions and subtractions.
+mod bits;
+
+pub use bits::from_bits;
+pub use bits::to_bits;
 ghost use mathlib.Core.Path.{_≡_};
 ghost use Prim.Native.Nat.{_+_, _-_, _*_, _/_, _%_, _^_, _<_, _≤_};
 ghost use lib.Ieee.{binary64};

@@ -1,0 +1,10 @@
+-- `claims::ln_splits` meets its contract. Assumes nothing.
+use Rattle.scalar.proofs.Digits.{splits}
+use Rattle.claims.proofs.ln_splits.Statement.{statement}
+use Rattle.claims.proofs.ln_splits.Tie as tie
+
+returns : tie.Need-returns
+returns c = record { at = splits }
+
+pub ln-splits-spec : {M : Type 1} → statement M
+ln-splits-spec = tie.close (tie.spec returns)

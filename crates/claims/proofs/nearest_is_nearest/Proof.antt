@@ -1,0 +1,10 @@
+-- `claims::nearest_is_nearest` meets its contract. Assumes nothing.
+use Rattle.scalar.proofs.Rest.{nearest-whole}
+use Rattle.claims.proofs.nearest_is_nearest.Statement.{statement}
+use Rattle.claims.proofs.nearest_is_nearest.Tie as tie
+
+returns : tie.Need-returns
+returns c = record { at = nearest-whole }
+
+pub nearest-is-nearest-spec : {M : Type 1} → statement M
+nearest-is-nearest-spec = tie.close (tie.spec returns)

@@ -1,0 +1,17 @@
+-- What two of the elementary functions' definitions mean, said without a way to compute them. Definitions only.
+use mathlib.Core.Bool.{Bool}
+use Prim.Native.Nat.{ℕ, _*_}
+use lib.Dec.{T}
+use lib.IntN.{ℤ}
+use lib.Ieee.{Float, fin, up, down}
+use lib.Ieee.Positive.{positive}
+use Rattle.scalar.specs.Whole.{nearestOf, NearestWhole}
+use Rattle.scalar.specs.Logarithm.{partsOf, Splits}
+
+-- every finite x is the fraction m * up e / down e with the sign s
+pub record NearestIsNearest : Type 0 where
+  pub at : (s : Bool) (m : ℕ) (e : ℤ) → NearestWhole s (m * up e) (down e) (nearestOf (fin s m e))
+
+-- every finite x above zero
+pub record LnSplits : Type 0 where
+  pub at : (x : Float) → T (positive x) → Splits x (partsOf x)

@@ -1,0 +1,3 @@
+-- What the claims say.
+pub mod Ieee
+pub mod Elementary

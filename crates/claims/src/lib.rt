@@ -1,0 +1,29 @@
+// The top claims. Nothing runs here: each is the contract of a function that does nothing, so that the check names it
+// as proved.
+ghost use Rattle.claims.specs.Ieee.{MeetsIeee754, Determined, OverflowsAtMidpoint};
+ghost use Rattle.claims.specs.Elementary.{NearestIsNearest, LnSplits};
+
+// Demand 2: "Arithmetic and square root meet IEEE 754 by proof."
+pub fn arithmetic_meets_ieee_754()
+    ensures { λ _. ⌜ MeetsIeee754 ⌝ }
+{}
+
+// IEEE 754 leaves no choice: two results that both meet it are one.
+pub fn ieee_754_determines()
+    ensures { λ _. ⌜ Determined ⌝ }
+{}
+
+// Overflow begins at IEEE 754's midpoint.
+pub fn ieee_754_overflow()
+    ensures { λ _. ⌜ OverflowsAtMidpoint ⌝ }
+{}
+
+// 01's "nearest" is the nearest whole number.
+pub fn nearest_is_nearest()
+    ensures { λ _. ⌜ NearestIsNearest ⌝ }
+{}
+
+// 01's m and e of ln: 1 ≤ m < 2 and x = m × 2^e.
+pub fn ln_splits()
+    ensures { λ _. ⌜ LnSplits ⌝ }
+{}

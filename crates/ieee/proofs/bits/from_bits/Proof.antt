@@ -1,0 +1,25 @@
+-- `ieee::bits::from_bits` meets its contract. Assumes nothing.
+use mathlib.Core.Path.{_≡_, refl, sym, _∙_}
+use lib.Ieee.{binary64, nan, div, ofBits}
+use Rattle.ieee.proofs.Patterns.{nan-pattern, number-pattern}
+use mathlib.Core.Path.{sym}
+use lib.Ieee as Ieee
+use borrow.Author.Needs.{needs}
+use Rattle.ieee.proofs.bits.from_bits.Statement.{statement}
+use Rattle.ieee.proofs.bits.from_bits.Tie as tie
+
+zero-over-zero : div binary64 (ofBits binary64 0) (ofBits binary64 0) ≡ nan
+unfolding div ofBits
+zero-over-zero = refl
+
+returns : tie.Need-returns
+returns c = zero-over-zero ∙ sym (nan-pattern (c .before .args .b) (c .if1 .taken))
+
+float-from-bits-result : tie.Need-float-from-bits-result
+float-from-bits-result c = number-pattern (c .before .args .b) (c .if1 .left)
+
+returns-2 : tie.Need-returns-2
+returns-2 c = search needs
+
+pub from-bits-spec : {M : Type 1} → statement M
+from-bits-spec = tie.close (tie.spec returns float-from-bits-result returns-2)
