@@ -5,6 +5,8 @@ use lib.Dec.{T}
 use lib.IntN.{ℤ}
 use lib.Ieee.{Float, fin, up, down}
 use lib.Ieee.Positive.{positive}
+use Rattle.scalar.specs.Constants.{plusZero, one, two, half, pi, epsilon}
+use Rattle.claims.specs.declared.Constants.{Constants}
 use Rattle.scalar.specs.Whole.{nearestOf, NearestWhole}
 use Rattle.scalar.specs.Logarithm.{partsOf, Splits}
 
@@ -15,3 +17,7 @@ pub record NearestIsNearest : Type 0 where
 -- every finite x above zero
 pub record LnSplits : Type 0 where
   pub at : (x : Float) → T (positive x) → Splits x (partsOf x)
+
+-- 004's constants at f64: PI is 400921FB54442D18 and EPSILON 3CB0000000000000
+abbrev pub constantsOf : Constants
+constantsOf = record { zero = plusZero; one = one; two = two; half = half; pi = pi; epsilon = epsilon }

@@ -1,7 +1,8 @@
 // The top claims. Nothing runs here: each is the contract of a function that does nothing, so that the check names it
 // as proved.
+ghost use mathlib.Core.Path.{_≡_};
 ghost use Rattle.claims.specs.Ieee.{MeetsIeee754, Determined, OverflowsAtMidpoint};
-ghost use Rattle.claims.specs.Elementary.{NearestIsNearest, LnSplits};
+ghost use Rattle.claims.specs.Elementary.{NearestIsNearest, LnSplits, constantsOf};
 
 // Demand 2: "Arithmetic and square root meet IEEE 754 by proof."
 pub fn arithmetic_meets_ieee_754()
@@ -27,3 +28,27 @@ pub fn nearest_is_nearest()
 pub fn ln_splits()
     ensures { λ _. ⌜ LnSplits ⌝ }
 {}
+
+// 004's constants that the filters use.
+pub struct Constants {
+    pub zero: f64,
+    pub one: f64,
+    pub two: f64,
+    pub half: f64,
+    pub pi: f64,
+    pub epsilon: f64,
+}
+
+// They have 01's bits.
+pub fn constants_have_their_bits() -> Constants
+    ensures { λ r. ⌜ r ≡ constantsOf ⌝ }
+{
+    Constants {
+        zero: scalar::ZERO,
+        one: scalar::ONE,
+        two: scalar::TWO,
+        half: scalar::HALF,
+        pi: scalar::PI,
+        epsilon: scalar::EPSILON,
+    }
+}

@@ -10,23 +10,6 @@ use table::COUNT;
 use table::FUNCTION;
 use table::INPUT;
 
-fn answer(function: u64, x: f64) -> f64 {
-    match function {
-        0 => ieee::sqrt(x),
-        1 => scalar::abs(x),
-        2 => scalar::max_zero(x),
-        3 => scalar::sin(x),
-        4 => scalar::cos(x),
-        5 => scalar::tan(x),
-        6 => scalar::exp(x),
-        7 => scalar::pow10(x),
-        8 => scalar::ln(x),
-        9 => scalar::sinh(x),
-        10 => scalar::cosh(x),
-        _ => scalar::arcsinh(x),
-    }
-}
-
 fn print_name(function: u64) {
     match function {
         0 => io::write_all(STDOUT_FILENO, b"sqrt "),
@@ -49,7 +32,7 @@ fn print_name(function: u64) {
 fn vector(function: u64, input: u64, stored: u64) -> u64
     ensures counted { λ r. ⌜ r ≤ 1 ⌝ }
 {
-    let y = ieee::to_bits(answer(function, ieee::from_bits(input)));
+    let y = ieee::to_bits(exports::recorder_elementary(function, ieee::from_bits(input)));
     print_name(function);
     io::print_hex(STDOUT_FILENO, input, 16);
     io::write_all(STDOUT_FILENO, b" ");

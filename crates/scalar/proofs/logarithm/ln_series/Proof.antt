@@ -34,7 +34,7 @@ loop-less c = search needs
 
 loop-again : tie.Need-loop-again Inv-loop μ-loop
 loop-again c = let l = c .before .before .loop in
-    rw (c .inverse2 .ensures) (ln-turn (c .before .before .before .before .args .s) (l .p) (l .k) (l .inv .0) (l .inv .1) (l .inv .2) (l .inv .3) (c .before .loop-test .taken))
+    rw (c .inverse2 .ensures) (ln-turn (c .before .before .before .before .args .s) (l .p) (l .k) (l .inv .0) (l .inv .1) (l .inv .2) (l .inv .3) (omega arith))
 
 returns : tie.Need-returns Inv-loop μ-loop
 returns c = let l = c .before .loop in

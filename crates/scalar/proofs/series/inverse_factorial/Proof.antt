@@ -15,9 +15,11 @@ use borrow.Author.Needs.{needs}
 use Rattle.scalar.proofs.series.inverse_factorial.Statement.{statement}
 use Rattle.scalar.proofs.series.inverse_factorial.Tie as tie
 
+-- the code's table
 table : List ℕ
 table = 1 ∷ 1 ∷ 2 ∷ 6 ∷ 24 ∷ 120 ∷ 720 ∷ 5040 ∷ 40320 ∷ 362880 ∷ 3628800 ∷ 39916800 ∷ 479001600 ∷ 6227020800 ∷ 87178291200 ∷ 1307674368000 ∷ 20922789888000 ∷ 355687428096000 ∷ []
 
+-- the rule: an entry is its place's factorial, and an f64 holds it
 right : ℕ → ℕ → Bool
 right k x = both (eqb x (fact k)) (leb x (2 ^ 53))
 
@@ -33,11 +35,14 @@ array-read-result c = search needs
 
 int-to-float-result : tie.Need-int-to-float-result
 unfolding inFloat table
-int-to-float-result c = both-right (eqb (getD table (c .before .args .k) 0) (fact (c .before .args .k))) (leb (getD table (c .before .args .k) 0) (2 ^ 53)) (rule (c .before .args .k) (search needs))
+int-to-float-result c =
+    let k = c .before .args .k in
+    both-right (eqb (getD table k 0) (fact k)) (leb (getD table k 0) (2 ^ 53)) (rule k (search needs))
 
 returns : tie.Need-returns
 unfolding invFact table
-returns c = let k = c .before .args .k in
+returns c =
+    let k = c .before .args .k in
     ap (λ (n : ℕ). one ⊘ nat n) (eqb→eq (getD table k 0) (fact k) (both-left (eqb (getD table k 0) (fact k)) (leb (getD table k 0) (2 ^ 53)) (rule k (search needs))))
 
 pub inverse-factorial-spec : {M : Type 1} → statement M

@@ -1,0 +1,2 @@
+-- What the contract of `exports` says.
+pub mod Numbered
