@@ -22,6 +22,7 @@ pub use hyperbolic::cosh;
 pub use hyperbolic::sinh;
 pub use logarithm::ln;
 pub use sign::abs;
+pub use sign::is_finite;
 pub use sign::max_zero;
 pub use trigonometric::cos;
 pub use trigonometric::sin;

@@ -1,0 +1,27 @@
+-- `cascade::Cascade::pass` meets its contract: the values that `moved` ensures, under the flag that `clouds` does. Assumes nothing.
+use mathlib.Core.Path.{_∙_, ap₂}
+use mathlib.Core.Bool.{Bool, _||_}
+use lib.Ieee.{Float}
+use Rattle.cascade.specs.Cascade.{CascadeRecord, flagged, clouding, mark, next}
+use Rattle.cascade.specs.View.{cascadeView}
+use mathlib.Core.Path.{_∙_, ap, ap₂}
+use lib.Ieee.{Float, binary64}
+use borrow.Author.Needs.{needs}
+use Rattle.cascade.proofs.Cascade.pass.Statement.{statement}
+use Rattle.cascade.proofs.Cascade.pass.Tie as tie
+
+moved-requires : tie.Need-moved-requires
+moved-requires c κs = search needs
+
+clouds-requires : tie.Need-clouds-requires
+clouds-requires c κs = search needs
+
+returns : tie.Need-returns
+unfolding next mark
+returns c =     let s = c .before .before .before in
+    let m = c .before .before .moved .ensures in
+    let b = cascadeView (s .args .self) in
+    (m .0, ap₂ flagged (c .clouds .ensures ∙ ap₂ (λ (y : Float) (a : CascadeRecord). s .args .self .clouded || clouding b (s .args .x) y a) (m .0) (m .1)) (m .1))
+
+pub pass-spec : {M : Type 1} → statement M
+pass-spec = tie.close (tie.spec moved-requires clouds-requires returns)

@@ -1,0 +1,30 @@
+-- `cascade::Cascade::reset` meets its contract. Assumes nothing.
+use mathlib.Core.Path.{sym, _∙_}
+use borrow.Author.Tests.{not-true, not-false}
+use lib.Ieee.{binary64}
+use Rattle.runs.proofs.Laws.{reset-refused, reset-done}
+use Rattle.cascade.specs.Cascade.{clearedCascade, cascade}
+use borrow.Author.Needs.{needs}
+use Rattle.cascade.proofs.Cascade.reset.Statement.{statement}
+use Rattle.cascade.proofs.Cascade.reset.Tie as tie
+
+check-requires : tie.Need-check-requires
+check-requires c κs = search needs
+
+returns : tie.Need-returns
+returns c = reset-refused (cascade binary64) _ (sym (c .before .check .ensures) ∙ not-true _ (c .if1 .taken))
+
+reset-sections-requires : tie.Need-reset-sections-requires
+reset-sections-requires c κs = search needs
+
+reset-requires : tie.Need-reset-requires
+reset-requires c κs = search needs
+
+returns-2 : tie.Need-returns-2
+unfolding clearedCascade
+returns-2 c =     let e = c .before .before .before .before in
+    reset-done (cascade binary64) _ (sym (e .before .check .ensures) ∙ not-false _ (e .if1 .left)) (cc)
+
+pub reset-spec : {M : Type 1} → statement M
+reset-spec =
+    tie.close (tie.spec check-requires returns reset-sections-requires reset-requires returns-2)

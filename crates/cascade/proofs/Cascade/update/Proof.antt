@@ -1,0 +1,33 @@
+-- `cascade::Cascade::update` meets its contract. Assumes nothing.
+use mathlib.Core.Path.{sym, _∙_}
+use mathlib.Core.Bool.{true, false}
+use borrow.Author.Tests.{not-true, not-false}
+use lib.Ieee.{binary64}
+use Rattle.runs.proofs.Laws.{step-refused, step-answered}
+use Rattle.cascade.specs.Cascade.{cascade}
+use Rattle.cascade.proofs.Laws.{count-in, answer-is}
+use borrow.Author.Needs.{needs}
+use Rattle.cascade.proofs.Cascade.update.Statement.{statement}
+use Rattle.cascade.proofs.Cascade.update.Tie as tie
+
+check-requires : tie.Need-check-requires
+check-requires c κs = search needs
+
+returns : tie.Need-returns
+returns c = step-refused (cascade binary64) _ _ (sym (c .before .check .ensures) ∙ not-true _ (c .if1 .taken))
+
+pass-requires : tie.Need-pass-requires
+pass-requires c κs = count-in _ (sym (c .before .check .ensures) ∙ not-false _ (c .if1 .left))
+
+returns-2 : tie.Need-returns-2
+returns-2 c =     let b = c .before .before .before in
+    let p = c .before .before .pass .ensures in
+    step-answered (cascade binary64) _ _ (sym (b .before .check .ensures) ∙ not-false _ (b .if1 .left)) (answer-is binary64 _ _ true (p .0) (p .1) (c .if2 .taken)) (p .1)
+
+returns-3 : tie.Need-returns-3
+returns-3 c =     let b = c .before .before .before in
+    let p = c .before .before .pass .ensures in
+    step-answered (cascade binary64) _ _ (sym (b .before .check .ensures) ∙ not-false _ (b .if1 .left)) (answer-is binary64 _ _ false (p .0) (p .1) (c .if2 .left)) (p .1)
+
+pub update-spec : {M : Type 1} → statement M
+update-spec = tie.close (tie.spec check-requires returns pass-requires returns-2 returns-3)

@@ -1,0 +1,69 @@
+-- `cascade::reset_sections` meets its contract. The loop's invariant: the first i sections are cleared. The measure is how many are left. Assumes nothing.
+use mathlib.Core.Path.{_≡_, _∙_}
+use mathlib.Core.List.{map}
+use Prim.Native.Nat.{_≤_, _<_, _-_}
+use native.Mathlib.Omega.{arith}
+use borrow.Author.Needs.{needs}
+use lib.ListN.{length, length-map}
+use Rattle.cascade.specs.Section.{clearedBiquad}
+use Rattle.cascade.specs.View.{sectionView}
+use Rattle.cascade.proofs.Loops.{upTo, upTo-none, upTo-turn, upTo-all}
+use Rattle.cascade.proofs.reset_sections.Statement.{statement}
+use Rattle.cascade.proofs.reset_sections.Tie as tie
+
+abbrev Inv-loop : tie.InvT-loop
+Inv-loop kept₀ i₀ kept i = (i ≤ 4) × (map sectionView kept ≡ upTo clearedBiquad i (map sectionView kept₀))
+
+abbrev μ-loop : tie.MeasureT-loop
+μ-loop kept₀ i₀ kept i = 4 - i
+
+loop-holds : tie.Need-loop-holds Inv-loop μ-loop
+loop-holds c = (omega arith, upTo-none clearedBiquad _)
+
+mul-s : tie.Need-mul-s Inv-loop μ-loop
+mul-s c = search needs
+
+array-copy-out-s : tie.Need-array-copy-out-s Inv-loop μ-loop
+array-copy-out-s c = search needs
+
+reset-requires : tie.Need-reset-requires Inv-loop μ-loop
+reset-requires c κs = search needs
+
+mul-kept : tie.Need-mul-kept Inv-loop μ-loop
+mul-kept c = search needs
+
+array-set-from-kept : tie.Need-array-set-from-kept Inv-loop μ-loop
+array-set-from-kept c = search needs
+
+add-i : tie.Need-add-i Inv-loop μ-loop
+add-i c = search needs
+
+loop-less : tie.Need-loop-less Inv-loop μ-loop
+loop-less c = search needs
+
+loop-again : tie.Need-loop-again Inv-loop μ-loop
+loop-again c =     let at = c .before .before .before in
+    let h : at .loop .i < length (at .before .args .sections) = omega (arith, at .before .good .0 .1 .0 .1) in
+    (omega arith, upTo-turn clearedBiquad sectionView (at .before .args .sections) (at .loop .kept) (at .loop .i) _ _ h (at .loop .inv .1) (c .reset .ensures))
+
+returns : tie.Need-returns Inv-loop μ-loop
+returns c =     let at = c .before in
+    let h : length (map sectionView (at .before .args .sections)) ≤ at .loop .i = simp length-map (omega (arith, at .before .good .0 .1 .0 .1)) in
+    at .loop .inv .1 ∙ upTo-all clearedBiquad _ _ h
+
+pub reset-sections-spec : {M : Type 1} → statement M
+reset-sections-spec =
+    tie.close
+    (tie.spec
+    Inv-loop
+    μ-loop
+    loop-holds
+    mul-s
+    array-copy-out-s
+    reset-requires
+    mul-kept
+    array-set-from-kept
+    add-i
+    loop-less
+    loop-again
+    returns)

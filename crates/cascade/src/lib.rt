@@ -1,0 +1,237 @@
+// 01 "Cascade": four second-order sections, a first-order part, and running them a sample at a time. The Rust has this
+// once for each kind of filter (ButterworthLp, ButterworthHp, ButterworthBp, ChebyshevI, ChebyshevII); here it stands
+// once.
+mod first_order;
+mod section;
+
+pub use first_order::FirstOrder;
+pub use section::Section;
+ghost use mathlib.Core.Path.{_≡_};
+ghost use mathlib.Core.Bool.{cond, _||_};
+ghost use mathlib.Core.List.{map};
+ghost use Prim.Native.Nat.{_≤_};
+ghost use lib.Ieee.{binary64};
+ghost use Rattle.runs.specs.Runs.{step, reset};
+ghost use Rattle.cascade.specs.Section.{clearedBiquad};
+ghost use Rattle.cascade.specs.FirstOrder.{firstOut, firstNext};
+ghost use Rattle.cascade.specs.Cascade.{sectionsOut, sectionsNext, value, moved, clouding, next, checkCascade, blankCascade, cascade};
+ghost use Rattle.cascade.specs.View.{sectionView, firstView, cascadeView, updatedView, resetView};
+use first_order::FirstProcessed;
+use runs::Answer;
+
+pub struct Cascade {
+    pub sections: [Section; 4],
+    // How many of the sections are used, from section 0 on.
+    pub count: usize,
+    pub first: FirstOrder,
+    // Whether the first-order part is used.
+    pub has_first: bool,
+    // Whether a sample since design or reset was not finite.
+    pub clouded: bool,
+}
+
+// What `update` returns.
+pub struct Updated {
+    pub answer: Answer,
+    pub cascade: Cascade,
+}
+
+// What `reset` returns: 0 or the refusal number, and the cascade.
+pub struct WasReset {
+    pub refusal: u8,
+    pub cascade: Cascade,
+}
+
+// A number that came out of the sections, and the sections after it.
+struct Through {
+    out: f64,
+    sections: [Section; 4],
+}
+
+// A number that came out of the cascade, and the cascade after it.
+struct Passed {
+    out: f64,
+    cascade: Cascade,
+}
+
+// A sample through the first-order part where it is used.
+fn enter(has_first: bool, first: FirstOrder, x: f64) -> FirstProcessed
+    ensures { λ r. ⌜ (r .out ≡ cond «has_first» (firstOut binary64 (firstView first) x) x)
+        × (firstView (r .first) ≡ cond «has_first» (firstNext binary64 (firstView first) x) (firstView first)) ⌝ }
+{
+    if has_first {
+        first.process(x)
+    } else {
+        FirstProcessed { out: x, first }
+    }
+}
+
+// A sample through the first `count` sections, from section 0 upward.
+fn pass_sections(sections: [Section; 4], count: usize, x: f64) -> Through
+    requires { ⌜ count ≤ 4 ⌝ }
+    ensures { λ r. ⌜ (r .out ≡ sectionsOut binary64 count (map sectionView sections) x)
+        × (map sectionView (r .sections) ≡ sectionsNext binary64 count (map sectionView sections) x) ⌝ }
+{
+    let mut kept = sections;
+    let mut y = x;
+    let mut i: usize = 0;
+    while i < count {
+        let s = kept[i];
+        let p = s.process(y);
+        y = p.out;
+        let t = p.section;
+        kept[i] = t;
+        i += 1;
+    }
+    Through {
+        out: y,
+        sections: kept,
+    }
+}
+
+// All four sections with carried values +0.
+fn reset_sections(sections: [Section; 4]) -> [Section; 4]
+    ensures { λ r. ⌜ map sectionView r ≡ map clearedBiquad (map sectionView sections) ⌝ }
+{
+    let mut kept = sections;
+    let mut i: usize = 0;
+    while i < Cascade::MAX_SECTIONS {
+        let s = kept[i];
+        let t = s.reset();
+        kept[i] = t;
+        i += 1;
+    }
+    kept
+}
+
+// The mark, 01 "Run answer": whether the answer y to x is Clouded, of the cascade before and after it.
+fn clouds(before: Cascade, x: f64, y: f64, after: Cascade) -> bool
+    ensures { λ r. ⌜ r ≡ (before .clouded || clouding (cascadeView before) x y (cascadeView after)) ⌝ }
+{
+    if before.clouded {
+        return true;
+    }
+    !scalar::is_finite(x)
+}
+
+impl Cascade {
+    // How many sections there are.
+    pub const MAX_SECTIONS: usize = 4;
+
+    // What a refused design returns: counts 0, flags off, numbers +0.
+    pub fn blank() -> Self
+        ensures { λ r. ⌜ cascadeView r ≡ blankCascade ⌝ }
+    {
+        Cascade {
+            sections: [Section::blank(); 4],
+            count: 0,
+            first: FirstOrder::blank(),
+            has_first: false,
+            clouded: false,
+        }
+    }
+
+    // Whether the record passes its check. One that does not is refused by 11.
+    fn check(self) -> bool
+        ensures { λ r. ⌜ r ≡ checkCascade (cascadeView self) ⌝ }
+    {
+        if self.count > Cascade::MAX_SECTIONS {
+            return false;
+        }
+        if self.count > 0 {
+            return true;
+        }
+        self.has_first
+    }
+
+    // The number answered to x, and the cascade with its carried values after it. The flag is as it was.
+    fn moved(self, x: f64) -> Passed
+        requires { ⌜ self .count ≤ 4 ⌝ }
+        ensures { λ r. ⌜ (r .out ≡ value binary64 (cascadeView self) x) × (cascadeView (r .cascade) ≡ moved binary64 (cascadeView self) x) ⌝ }
+    {
+        let old = self.first;
+        let e = enter(self.has_first, old, x);
+        let first = e.first;
+        let before = self.sections;
+        let count = self.count;
+        let t = pass_sections(before, count, e.out);
+        let sections = t.sections;
+        Passed {
+            out: t.out,
+            cascade: Cascade {
+                sections,
+                count,
+                first,
+                has_first: self.has_first,
+                clouded: self.clouded,
+            },
+        }
+    }
+
+    // The same with the flag after x.
+    fn pass(self, x: f64) -> Passed
+        requires { ⌜ self .count ≤ 4 ⌝ }
+        ensures { λ r. ⌜ (r .out ≡ value binary64 (cascadeView self) x) × (cascadeView (r .cascade) ≡ next binary64 (cascadeView self) x) ⌝ }
+    {
+        let m = self.moved(x);
+        let after = m.cascade;
+        let mut cascade = after;
+        cascade.clouded = clouds(self, x, m.out, after);
+        Passed {
+            out: m.out,
+            cascade,
+        }
+    }
+
+    // One sample: its answer, and the cascade after it.
+    pub fn update(self, x: f64) -> Updated
+        ensures { λ r. ⌜ updatedView r ≡ step (cascade binary64) (cascadeView self) x ⌝ }
+    {
+        if !self.check() {
+            return Updated {
+                answer: Answer::Refused(runs::BAD_CASCADE),
+                cascade: self,
+            };
+        }
+        let p = self.pass(x);
+        let y = p.out;
+        let cascade = p.cascade;
+        if cascade.clouded {
+            Updated {
+                answer: Answer::Clouded(y),
+                cascade,
+            }
+        } else {
+            Updated {
+                answer: Answer::Clear(y),
+                cascade,
+            }
+        }
+    }
+
+    // Sets all carried values to +0, those of unused parts too, and clears the cloud flag.
+    pub fn reset(self) -> WasReset
+        ensures { λ r. ⌜ resetView r ≡ reset (cascade binary64) (cascadeView self) ⌝ }
+    {
+        if !self.check() {
+            return WasReset {
+                refusal: runs::BAD_CASCADE,
+                cascade: self,
+            };
+        }
+        let old = self.sections;
+        let sections = reset_sections(old);
+        let part = self.first;
+        let first = part.reset();
+        WasReset {
+            refusal: 0,
+            cascade: Cascade {
+                sections,
+                count: self.count,
+                first,
+                has_first: self.has_first,
+                clouded: false,
+            },
+        }
+    }
+}

@@ -1,0 +1,2 @@
+-- The laws by which a filter's functions show what they return.
+pub mod Laws

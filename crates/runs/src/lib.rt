@@ -1,0 +1,28 @@
+// What running has in common, whatever the filter: the answer to a sample, and the refusal numbers. What a step and a
+// reset are, for any filter, width and capacity, stands in specs/.
+
+// 01's refusal numbers, from the input, under 003's names.
+pub const INVALID_ORDER: u8 = 1;
+
+pub const INVALID_FREQUENCY: u8 = 2;
+
+pub const INVALID_SAMPLE_RATE: u8 = 3;
+
+pub const INVALID_RIPPLE: u8 = 4;
+
+pub const SHORT_OUTPUT: u8 = 5;
+
+// From the state.
+pub const BAD_CASCADE: u8 = 11;
+
+pub const BAD_TAPS: u8 = 12;
+
+// 01's run answer.
+pub enum Answer {
+    // The number, from finite samples alone.
+    Clear(f64),
+    // The number, from samples that were not all finite.
+    Clouded(f64),
+    // The refusal number.
+    Refused(u8),
+}

@@ -1,0 +1,31 @@
+-- `scalar::sign::is_finite` meets its contract: a float lies between the two infinities just where it is finite. Assumes nothing.
+use mathlib.Core.Path.{_≡_, refl, sym}
+use mathlib.Core.Bool.{true, false, true≢false}
+use lib.Ieee.{Float, nan, inf, fin, lt, neg, div, ofBits}
+use lib.Ieee.Scale.{finite}
+use Rattle.scalar.proofs.sign.is_finite.Statement.{statement}
+use Rattle.scalar.proofs.sign.is_finite.Tie as tie
+
+above : (x : Float) → lt x (inf false) ≡ true → lt (inf true) x ≡ finite x
+unfolding lt
+above nan p = refl
+above (inf true) p = refl
+above (inf false) p = absurd (true≢false (sym p))
+above (fin s m e) p = refl
+
+not-below : (x : Float) → lt x (inf false) ≡ false → false ≡ finite x
+unfolding lt
+not-below nan p = refl
+not-below (inf s) p = refl
+not-below (fin s m e) p = absurd (true≢false p)
+
+returns : tie.Need-returns
+unfolding neg div ofBits
+returns c = above (c .before .args .x) (c .if1 .taken)
+
+returns-2 : tie.Need-returns-2
+unfolding div ofBits
+returns-2 c = not-below (c .before .args .x) (c .if1 .left)
+
+pub is-finite-spec : {M : Type 1} → statement M
+is-finite-spec = tie.close (tie.spec returns returns-2)
