@@ -14,7 +14,7 @@ use Rattle.cascade.proofs.pass_sections.Statement.{statement}
 use Rattle.cascade.proofs.pass_sections.Tie as tie
 
 abbrev Inv-loop : tie.InvT-loop
-Inv-loop count x kept₀ y₀ i₀ kept y i =     (i ≤ count) × (y ≡ sectionsOut binary64 i (map sectionView kept₀) y₀) × (map sectionView kept ≡ sectionsNext binary64 i (map sectionView kept₀) y₀)
+Inv-loop count x kept₀ y₀ i₀ kept y i = (i ≤ count) × (y ≡ sectionsOut binary64 i (map sectionView kept₀) y₀) × (map sectionView kept ≡ sectionsNext binary64 i (map sectionView kept₀) y₀)
 
 abbrev μ-loop : tie.MeasureT-loop
 μ-loop count x kept₀ y₀ i₀ kept y i = count - i
@@ -44,7 +44,7 @@ loop-less : tie.Need-loop-less Inv-loop μ-loop
 loop-less c = search needs
 
 loop-again : tie.Need-loop-again Inv-loop μ-loop
-loop-again c =     let at = c .before .before .before .before in
+loop-again c = let at = c .before .before .before .before in
     let st = at .before in
     let h : at .loop .i < length (st .args .sections) = omega (arith, st .good .0 .1 .0 .1) in
     let p = c .before .process .ensures in (
@@ -54,7 +54,7 @@ loop-again c =     let at = c .before .before .before .before in
     )
 
 returns : tie.Need-returns Inv-loop μ-loop
-returns c =     let at = c .before in
+returns c = let at = c .before in
     let e : at .loop .i ≡ at .before .args .count = omega arith in
     (at .loop .inv .1 ∙ rw e, at .loop .inv .2 ∙ rw e)
 

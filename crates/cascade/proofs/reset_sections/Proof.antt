@@ -42,12 +42,12 @@ loop-less : tie.Need-loop-less Inv-loop μ-loop
 loop-less c = search needs
 
 loop-again : tie.Need-loop-again Inv-loop μ-loop
-loop-again c =     let at = c .before .before .before in
+loop-again c = let at = c .before .before .before in
     let h : at .loop .i < length (at .before .args .sections) = omega (arith, at .before .good .0 .1 .0 .1) in
     (omega arith, upTo-turn clearedBiquad sectionView (at .before .args .sections) (at .loop .kept) (at .loop .i) _ _ h (at .loop .inv .1) (c .reset .ensures))
 
 returns : tie.Need-returns Inv-loop μ-loop
-returns c =     let at = c .before in
+returns c = let at = c .before in
     let h : length (map sectionView (at .before .args .sections)) ≤ at .loop .i = simp length-map (omega (arith, at .before .good .0 .1 .0 .1)) in
     at .loop .inv .1 ∙ upTo-all clearedBiquad _ _ h
 

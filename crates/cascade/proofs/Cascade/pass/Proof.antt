@@ -18,7 +18,7 @@ clouds-requires c κs = search needs
 
 returns : tie.Need-returns
 unfolding next mark
-returns c =     let s = c .before .before .before in
+returns c = let s = c .before .before .before in
     let m = c .before .before .moved .ensures in
     let b = cascadeView (s .args .self) in
     (m .0, ap₂ flagged (c .clouds .ensures ∙ ap₂ (λ (y : Float) (a : CascadeRecord). s .args .self .clouded || clouding b (s .args .x) y a) (m .0) (m .1)) (m .1))

@@ -22,7 +22,7 @@ reset-requires c κs = search needs
 
 returns-2 : tie.Need-returns-2
 unfolding clearedCascade
-returns-2 c =     let e = c .before .before .before .before in
+returns-2 c = let e = c .before .before .before .before in
     reset-done (cascade binary64) _ (sym (e .before .check .ensures) ∙ not-false _ (e .if1 .left)) (cc)
 
 pub reset-spec : {M : Type 1} → statement M

@@ -1,0 +1,48 @@
+-- What the checks leave. Assumes nothing.
+use mathlib.Core.Path.{_≡_, refl, sym}
+use mathlib.Core.Bool.{Bool, true, false, cond, _||_, true≢false}
+use Prim.Native.Nat.{ℕ, zero, suc, _<_, _≤_}
+use native.Mathlib.Nat.{zero-lt-suc}
+use native.Mathlib.Omega.{arith}
+use lib.Dec.{ltb, eqb}
+use lib.Ieee.{Float}
+use borrow.Author.Tests.{ltb-false, eq-eqb, ne-eqb}
+use Rattle.cascade.specs.Cascade.{CascadeRecord}
+use Rattle.runs.specs.Refusals.{InvalidOrder}
+use Rattle.designs.specs.Checks.{orderRefused}
+use Rattle.designs.specs.Design.{refusedDesign, accepted, unlessRefused}
+use Rattle.designs.specs.Butterworth.{validateParams}
+use Rattle.designs.specs.BandPass.{validateBand}
+
+either-no : (a b : Bool) → (a || b) ≡ false → b ≡ false
+either-no true b e = absurd (true≢false e)
+either-no false b e = e
+
+-- an order that is not refused
+pub good-order : (n most : ℕ) → orderRefused n most ≡ false → (0 < n) × (n ≤ most)
+unfolding orderRefused
+good-order zero most e = absurd (true≢false e)
+good-order (suc n) most e = (zero-lt-suc n, ltb-false most (suc n) (either-no (eqb (suc n) 0) (ltb most (suc n)) e))
+
+-- parameters that pass have such an order: it is tested first, whatever is tested after it
+first-passed : (b : Bool) (rest : ℕ) → cond b InvalidOrder rest ≡ 0 → b ≡ false
+first-passed true rest e = absurd (no e)
+  where
+    no : _≡_ {A = ℕ} 1 0 → ⊥
+    no e = omega arith
+first-passed false rest e = refl
+
+pub good-params : (cutoff rate : Float) (n : ℕ) → validateParams cutoff rate n ≡ 0 → (0 < n) × (n ≤ 8)
+unfolding validateParams
+good-params cutoff rate n e = good-order n 8 (first-passed (orderRefused n 8) _ e)
+
+pub good-band : (low high rate : Float) (n : ℕ) → validateBand low high rate n ≡ 0 → (0 < n) × (n ≤ 4)
+unfolding validateBand
+good-band low high rate n e = good-order n 4 (first-passed (orderRefused n 4) _ e)
+
+-- what a design shows where it returns, v being what its checks drew
+pub is-refused : (v : ℕ) (c : CascadeRecord) → (v ≡ 0 → ⊥) → refusedDesign v ≡ unlessRefused v c
+is-refused v c h = rw (ne-eqb v 0 h)
+
+pub is-accepted : (v : ℕ) (c : CascadeRecord) → v ≡ 0 → accepted c ≡ unlessRefused v c
+is-accepted v c h = rw (eq-eqb v 0 h)

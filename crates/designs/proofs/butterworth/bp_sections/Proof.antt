@@ -1,0 +1,53 @@
+-- `designs::butterworth::bp_sections` meets its contract. Assumes nothing.
+use mathlib.Core.Path.{_≡_, _∙_}
+use Prim.Native.Nat.{_-_, _/_}
+use native.Mathlib.Omega.{arith}
+use lib.ListN.{length}
+use borrow.Author.Needs.{needs}
+use borrow.Author.Tests.{eq-eqb, ne-eqb}
+use Rattle.cascade.specs.View.{sectionView}
+use Rattle.designs.specs.BandPass.{bpUpTo, bpSections}
+use Rattle.designs.proofs.Places.{place, band-length}
+use Rattle.designs.proofs.butterworth.bp_sections.Statement.{statement}
+use Rattle.designs.proofs.butterworth.bp_sections.Tie as tie
+
+bp-sections-from-pairs-requires : tie.Need-bp-sections-from-pairs-requires
+bp-sections-from-pairs-requires c κs = search needs
+
+returns : tie.Need-returns
+unfolding bpSections
+returns c = rw (eq-eqb _ _ (c .if1 .taken)) (c .before .bp-sections-from-pairs .ensures)
+
+bp-biquad-from-lp-real-pole-requires : tie.Need-bp-biquad-from-lp-real-pole-requires
+bp-biquad-from-lp-real-pole-requires c κs = search needs
+
+sub-sections : tie.Need-sub-sections
+sub-sections c = search needs
+
+mul-sections : tie.Need-mul-sections
+mul-sections c = search needs
+
+array-set-from-sections : tie.Need-array-set-from-sections
+array-set-from-sections c = search needs
+
+returns-2 : tie.Need-returns-2
+unfolding bpSections
+returns-2 c = let s = c .before .before .before in
+    let n = s .args .order in
+    let h = s .pre .1 in
+    let i : n - 1 ≡ length (bpUpTo n (s .args .bw) (s .args .omega0-sq) (n / 2)) = omega (arith, band-length n (s .args .bw) (s .args .omega0-sq) (n / 2), c .before .if1 .left, s .pre .0) in
+    rw (ne-eqb _ _ (c .before .if1 .left))
+    (place sectionView (c .before .before .bp-sections-from-pairs .result) 4 (n - 1) (bpUpTo n (s .args .bw) (s .args .omega0-sq) (n / 2)) (c .bp-biquad-from-lp-real-pole .result) _
+    (c .before .before .bp-sections-from-pairs .ensures) i (omega arith) (c .bp-biquad-from-lp-real-pole .ensures))
+
+pub bp-sections-spec : {M : Type 1} → statement M
+bp-sections-spec =
+    tie.close
+    (tie.spec
+    bp-sections-from-pairs-requires
+    returns
+    bp-biquad-from-lp-real-pole-requires
+    sub-sections
+    mul-sections
+    array-set-from-sections
+    returns-2)

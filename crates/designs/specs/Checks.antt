@@ -1,0 +1,23 @@
+-- 01's first table: when each refusal number is given. Comparisons with a NaN are false, so its tests stand by themselves. Definitions only.
+use Prim.Native.Nat.{ℕ}
+use mathlib.Core.Bool.{Bool, _||_}
+use lib.Dec.{eqb, ltb}
+use lib.Ieee.{Float, isNan, le}
+use Rattle.scalar.specs.Operators.{_⊗_}
+use Rattle.scalar.specs.Constants.{half, plusZero}
+
+-- 1: order 0 or above the most
+unfoldable pub orderRefused : ℕ → ℕ → Bool
+orderRefused n most = eqb n 0 || ltb most n
+
+-- 3: rate NaN or at most 0
+unfoldable pub rateRefused : Float → Bool
+rateRefused r = isNan r || le r plusZero
+
+-- 2: cutoff NaN, at most 0, or at least rate × 0.5
+unfoldable pub cutoffRefused : Float → Float → Bool
+cutoffRefused f r = isNan f || (le f plusZero || le (r ⊗ half) f)
+
+-- 2, band pass: an edge NaN, low at most 0, high at most low, high at least rate × 0.5
+unfoldable pub bandRefused : Float → Float → Float → Bool
+bandRefused low high r = isNan low || (isNan high || (le low plusZero || (le high low || le (r ⊗ half) high)))

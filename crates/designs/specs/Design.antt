@@ -1,0 +1,34 @@
+-- What a cascade design returns: its refusal number, or 0 and the cascade. Definitions only.
+use Prim.Native.Nat.{ℕ, zero, suc}
+use mathlib.Core.Bool.{cond}
+use mathlib.Core.List.{List, [], _∷_, _++_}
+use lib.Dec.{eqb}
+use Rattle.runs.specs.Refusals.{Accepted}
+use Rattle.cascade.specs.Section.{Biquad, blankBiquad}
+use Rattle.cascade.specs.Cascade.{CascadeRecord, blankCascade}
+
+pub record DesignRecord : Type 0 where
+  pub refusal : ℕ
+  pub cascade : CascadeRecord
+
+-- a refused design returns its number and the blank record
+abbrev pub refusedDesign : ℕ → DesignRecord
+refusedDesign n = record { refusal = n; cascade = blankCascade }
+
+abbrev pub accepted : CascadeRecord → DesignRecord
+accepted c = record { refusal = Accepted; cascade = c }
+
+-- the design of c, unless a check has drawn the number n
+abbrev pub unlessRefused : ℕ → CascadeRecord → DesignRecord
+unlessRefused n c = cond (eqb n Accepted) (accepted c) (refusedDesign n)
+
+-- sections in the first of p places, and blank ones behind them
+unfoldable pub placed : ℕ → List Biquad → List Biquad
+placed zero ss = []
+placed (suc p) [] = blankBiquad ∷ placed p []
+placed (suc p) (s ∷ ss) = s ∷ placed p ss
+
+-- g 0, g 1, to g (n - 1)
+unfoldable pub upTo : (ℕ → Biquad) → ℕ → List Biquad
+upTo g zero = []
+upTo g (suc n) = upTo g n ++ g n ∷ []

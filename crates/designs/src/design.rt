@@ -1,0 +1,73 @@
+// What the cascade designs have in common: what they return, and the checks of 01's table.
+ghost use mathlib.Core.Path.{_≡_};
+ghost use Rattle.designs.specs.Checks.{orderRefused, rateRefused, cutoffRefused, bandRefused};
+ghost use Rattle.designs.specs.Design.{refusedDesign};
+ghost use Rattle.designs.specs.View.{designView};
+use cascade::Cascade;
+
+// A design: 0 and the cascade, or the refusal number and the blank cascade.
+pub struct Design {
+    pub refusal: u8,
+    pub cascade: Cascade,
+}
+
+pub(crate) fn refused(refusal: u8) -> Design
+    ensures { λ r. ⌜ designView r ≡ refusedDesign refusal ⌝ }
+{
+    Design {
+        refusal,
+        cascade: Cascade::blank(),
+    }
+}
+
+// 1: order 0 or above the most.
+pub(crate) fn order_refused(order: usize, most: usize) -> bool
+    ensures { λ r. ⌜ r ≡ orderRefused order most ⌝ }
+{
+    if order == 0 {
+        return true;
+    }
+    order > most
+}
+
+// 3: rate NaN or at most 0.
+pub(crate) fn rate_refused(rate: f64) -> bool
+    ensures { λ r. ⌜ r ≡ rateRefused rate ⌝ }
+{
+    if rate != rate {
+        return true;
+    }
+    rate <= 0.0
+}
+
+// 2: cutoff NaN, at most 0, or at least rate × 0.5.
+pub(crate) fn cutoff_refused(cutoff: f64, rate: f64) -> bool
+    ensures { λ r. ⌜ r ≡ cutoffRefused cutoff rate ⌝ }
+{
+    if cutoff != cutoff {
+        return true;
+    }
+    if cutoff <= 0.0 {
+        return true;
+    }
+    cutoff >= rate * 0.5
+}
+
+// 2, band pass: an edge NaN, low at most 0, high at most low, high at least rate × 0.5.
+pub(crate) fn band_refused(low: f64, high: f64, rate: f64) -> bool
+    ensures { λ r. ⌜ r ≡ bandRefused low high rate ⌝ }
+{
+    if low != low {
+        return true;
+    }
+    if high != high {
+        return true;
+    }
+    if low <= 0.0 {
+        return true;
+    }
+    if high <= low {
+        return true;
+    }
+    high >= rate * 0.5
+}
