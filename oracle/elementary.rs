@@ -1,0 +1,308 @@
+// A scalar with f64 arithmetic whose elementary functions are those of 01 "Elementary functions", written from its text.
+use crate::core::scalar::ControlScalar;
+use num_traits::{Float, Num, NumCast, One, ToPrimitive, Zero};
+use std::fmt;
+use std::num::FpCategory;
+use std::ops::*;
+
+fn b(bits: u64) -> f64 {
+    f64::from_bits(bits)
+}
+
+/// Nearest whole number, ties to even.
+fn nearest(x: f64) -> f64 {
+    let n = x.round_ties_even();
+    if n == 0.0 { 0.0 } else { n }
+}
+
+fn horner(s: f64, coefficients: &[f64]) -> f64 {
+    let (last, rest) = coefficients.split_last().unwrap();
+    rest.iter().rev().fold(*last, |sum, c| c + s * sum)
+}
+
+fn factorial(k: u64) -> f64 {
+    (1..=k).product::<u64>() as f64
+}
+
+/// q modulo 4, S and C; nothing for an angle that is not finite or above 128.
+fn turn(x: f64) -> Option<(i64, f64, f64)> {
+    if !(x.abs() <= 128.0) {
+        return None;
+    }
+    let q = nearest(x * b(0x3FE45F306DC9C883));
+    let r = (x - q * b(0x3FF921FB54400000)) - q * b(0x3DD0B4611A626331);
+    let s = r * r;
+    let alternating = |first: u64| -> Vec<f64> {
+        (0..8).map(|i| if i % 2 == 0 { -(1.0 / factorial(first + 2 * i)) } else { 1.0 / factorial(first + 2 * i) }).collect()
+    };
+    let sine = r + (r * s) * horner(s, &alternating(3));
+    let cosine = 1.0 + s * horner(s, &alternating(2));
+    Some(((q as i64).rem_euclid(4), sine, cosine))
+}
+
+pub fn sin(x: f64) -> f64 {
+    match turn(x) {
+        None => f64::NAN,
+        Some((0, s, _)) => s,
+        Some((1, _, c)) => c,
+        Some((2, s, _)) => -s,
+        Some((_, _, c)) => -c,
+    }
+}
+
+pub fn cos(x: f64) -> f64 {
+    match turn(x) {
+        None => f64::NAN,
+        Some((0, _, c)) => c,
+        Some((1, s, _)) => -s,
+        Some((2, _, c)) => -c,
+        Some((_, s, _)) => s,
+    }
+}
+
+pub fn tan(x: f64) -> f64 {
+    sin(x) / cos(x)
+}
+
+pub fn exp(x: f64) -> f64 {
+    if x > 709.0 {
+        return f64::INFINITY;
+    }
+    if x < -708.0 {
+        return 0.0;
+    }
+    if x.is_nan() {
+        return f64::NAN;
+    }
+    let k = nearest(x / b(0x3FE62E42FEFA39EF));
+    let r = (x - k * b(0x3FE62E42FEE00000)) - k * b(0x3DEA39EF35793C76);
+    let series: Vec<f64> = (0..14).map(|j| 1.0 / factorial(j)).collect();
+    horner(r, &series) * b(((k as i64 + 1023) as u64) << 52)
+}
+
+pub fn pow10(y: f64) -> f64 {
+    exp(y * b(0x40026BB1BBB55516))
+}
+
+pub fn ln(x: f64) -> f64 {
+    if x.is_nan() || x < 0.0 {
+        return f64::NAN;
+    }
+    if x == 0.0 {
+        return f64::NEG_INFINITY;
+    }
+    if x == f64::INFINITY {
+        return x;
+    }
+    let (mut m, mut e) = (x, 0.0);
+    while m >= 2.0 {
+        m *= 0.5;
+        e += 1.0;
+    }
+    while m < 1.0 {
+        m *= 2.0;
+        e -= 1.0;
+    }
+    if m > b(0x3FF6A09E667F3BCD) {
+        m *= 0.5;
+        e += 1.0;
+    }
+    let f = (m - 1.0) / (m + 1.0);
+    let s = f * f;
+    let series: Vec<f64> = (0..11).map(|j| 1.0 / (2 * j + 1) as f64).collect();
+    e * b(0x3FE62E42FEE00000) + ((2.0 * f) * horner(s, &series) + e * b(0x3DEA39EF35793C76))
+}
+
+pub fn sinh(a: f64) -> f64 {
+    (exp(a) - exp(-a)) * 0.5
+}
+
+pub fn cosh(a: f64) -> f64 {
+    (exp(a) + exp(-a)) * 0.5
+}
+
+/// The scalar. Its Debug form is the bit pattern, so that the private fields of the published types can be read.
+#[derive(Clone, Copy, PartialEq, PartialOrd, Default)]
+pub struct Port(pub f64);
+
+pub fn bits(x: f64) -> String {
+    if x.is_nan() { "NaN".into() } else { format!("{:016X}", x.to_bits()) }
+}
+
+impl fmt::Debug for Port {
+    fn fmt(&self, f: &mut fmt::Formatter) -> fmt::Result {
+        write!(f, "{}", bits(self.0))
+    }
+}
+impl fmt::Display for Port {
+    fn fmt(&self, f: &mut fmt::Formatter) -> fmt::Result {
+        write!(f, "{}", bits(self.0))
+    }
+}
+
+macro_rules! operator {
+    ($($name:ident $method:ident $op:tt)*) => { $(
+        impl $name for Port {
+            type Output = Port;
+            fn $method(self, o: Port) -> Port { Port(self.0 $op o.0) }
+        }
+    )* };
+}
+operator! { Add add + Sub sub - Mul mul * Div div / Rem rem % }
+macro_rules! assign {
+    ($($name:ident $method:ident $op:tt)*) => { $(
+        impl $name for Port {
+            fn $method(&mut self, o: Port) { self.0 $op o.0 }
+        }
+    )* };
+}
+assign! { AddAssign add_assign += SubAssign sub_assign -= MulAssign mul_assign *= }
+impl Neg for Port {
+    type Output = Port;
+    fn neg(self) -> Port {
+        Port(-self.0)
+    }
+}
+impl Zero for Port {
+    fn zero() -> Port {
+        Port(0.0)
+    }
+    fn is_zero(&self) -> bool {
+        self.0 == 0.0
+    }
+}
+impl One for Port {
+    fn one() -> Port {
+        Port(1.0)
+    }
+}
+impl Num for Port {
+    type FromStrRadixErr = ();
+    fn from_str_radix(_: &str, _: u32) -> Result<Port, ()> {
+        Err(())
+    }
+}
+impl ToPrimitive for Port {
+    fn to_i64(&self) -> Option<i64> {
+        None
+    }
+    fn to_u64(&self) -> Option<u64> {
+        None
+    }
+}
+impl NumCast for Port {
+    fn from<T: ToPrimitive>(_: T) -> Option<Port> {
+        None
+    }
+}
+
+/// A method that the published files do not use.
+macro_rules! unused {
+    ($($name:ident ( $($arg:ident : $kind:ty),* ) -> $out:ty;)*) => { $(
+        fn $name(self $(, $arg: $kind)*) -> $out { $( let _ = $arg; )* unimplemented!(stringify!($name)) }
+    )* };
+}
+impl Float for Port {
+    fn nan() -> Port {
+        Port(f64::NAN)
+    }
+    fn infinity() -> Port {
+        Port(f64::INFINITY)
+    }
+    fn neg_infinity() -> Port {
+        Port(f64::NEG_INFINITY)
+    }
+    fn neg_zero() -> Port {
+        Port(-0.0)
+    }
+    fn min_value() -> Port {
+        Port(f64::MIN)
+    }
+    fn min_positive_value() -> Port {
+        Port(f64::MIN_POSITIVE)
+    }
+    fn max_value() -> Port {
+        Port(f64::MAX)
+    }
+    fn is_nan(self) -> bool {
+        self.0.is_nan()
+    }
+    fn is_infinite(self) -> bool {
+        self.0.is_infinite()
+    }
+    fn is_finite(self) -> bool {
+        self.0.is_finite()
+    }
+    fn is_normal(self) -> bool {
+        self.0.is_normal()
+    }
+    fn classify(self) -> FpCategory {
+        self.0.classify()
+    }
+    fn is_sign_positive(self) -> bool {
+        self.0.is_sign_positive()
+    }
+    fn is_sign_negative(self) -> bool {
+        self.0.is_sign_negative()
+    }
+    /// Clears the sign bit.
+    fn abs(self) -> Port {
+        Port(self.0.abs())
+    }
+    /// x where x > other, else other: 01's max(x, 0).
+    fn max(self, other: Port) -> Port {
+        if self.0 > other.0 { self } else { other }
+    }
+    /// Correctly rounded.
+    fn sqrt(self) -> Port {
+        Port(self.0.sqrt())
+    }
+    fn exp(self) -> Port {
+        Port(exp(self.0))
+    }
+    fn ln(self) -> Port {
+        Port(ln(self.0))
+    }
+    fn sin(self) -> Port {
+        Port(sin(self.0))
+    }
+    fn cos(self) -> Port {
+        Port(cos(self.0))
+    }
+    fn tan(self) -> Port {
+        Port(tan(self.0))
+    }
+    fn sinh(self) -> Port {
+        Port(sinh(self.0))
+    }
+    fn cosh(self) -> Port {
+        Port(cosh(self.0))
+    }
+    /// 001 raises 10 to a power, and nothing else.
+    fn powf(self, n: Port) -> Port {
+        assert!(self.0 == 10.0);
+        Port(pow10(n.0))
+    }
+    unused! {
+        floor() -> Port; ceil() -> Port; round() -> Port; trunc() -> Port; fract() -> Port; signum() -> Port;
+        mul_add(a: Port, b: Port) -> Port; recip() -> Port; powi(n: i32) -> Port; exp2() -> Port; log(base: Port) -> Port; log2() -> Port;
+        log10() -> Port; min(other: Port) -> Port; abs_sub(other: Port) -> Port; cbrt() -> Port; hypot(other: Port) -> Port; asin() -> Port;
+        acos() -> Port; atan() -> Port; atan2(other: Port) -> Port; sin_cos() -> (Port, Port); exp_m1() -> Port; ln_1p() -> Port; tanh() -> Port;
+        asinh() -> Port; acosh() -> Port; atanh() -> Port; integer_decode() -> (u64, i16, i8);
+    }
+}
+
+impl ControlScalar for Port {
+    const ZERO: Port = Port(0.0);
+    const ONE: Port = Port(1.0);
+    const TWO: Port = Port(2.0);
+    const HALF: Port = Port(0.5);
+    const PI: Port = Port(std::f64::consts::PI);
+    const EPSILON: Port = Port(f64::EPSILON);
+    fn from_f64(v: f64) -> Port {
+        Port(v)
+    }
+    fn to_f64(self) -> f64 {
+        self.0
+    }
+}

@@ -1,0 +1,12 @@
+// The published mod.rs (003) names modules that are not supplied, so its error type stands here.
+#![allow(dead_code)]
+pub mod butterworth;
+pub mod chebyshev;
+
+#[derive(Debug, Clone, Copy, PartialEq, Eq)]
+pub enum FilterError {
+    InvalidOrder,
+    InvalidFrequency,
+    InvalidSampleRate,
+    InvalidRipple,
+}

@@ -1,0 +1,132 @@
+#!/usr/bin/env python3
+"""Makes the fixed list that the program `replay` runs: crates/replay/src/table.rt and crates/replay/stdout.
+
+Usage, from the repository's root, after oracle/build: tools/replay.py
+
+The requests are made here, from a fixed seed; the answers are the oracle's, target/oracle/oracle: the published Rust,
+built unchanged. The oracle itself stops where the Rust does not refuse just as 01 says, no parameter being NaN.
+"""
+import random
+import struct
+import subprocess
+import sys
+
+KINDS = {"lowpass": 1, "highpass": 2, "bandpass": 3, "cstep": 4, "creset": 5}
+NAN = 0x7FF8000000000000
+
+
+def bits(x):
+    return NAN if x != x else struct.unpack("<Q", struct.pack("<d", x))[0]
+
+
+def hexadecimal(x):
+    return f"{bits(x):016X}"
+
+
+INF = float("inf")
+NAN_F = float("nan")
+RATES = [1.0, 2.0, 1000.0, 8000.0, 10000.0, 48000.0, 5e-324, 1e-310, 1e300, INF, 0.0, -0.0, -1.0, NAN_F]
+
+
+def cutoffs(dice, rate):
+    half = rate * 0.5
+    if rate != rate or rate in (0.0, INF) or rate < 0:
+        return [100.0, 1e300, NAN_F, 0.0]
+    near = [bits(half) + d for d in (-1, 0, 1)] if half > 0 else []
+    edges = [struct.unpack("<d", struct.pack("<Q", b))[0] for b in near]
+    return edges + [rate * dice.uniform(0.001, 0.499), rate * 0.25, 0.0, -1.0, NAN_F, INF]
+
+
+def samples(dice, count):
+    for _ in range(count):
+        yield dice.choice([dice.uniform(-100, 100), dice.uniform(-1, 1), 0.0, -0.0, 1.0, 1e308, 5e-324])
+
+
+def requests(dice):
+    def pass_design(kind, n, f, r):
+        return (kind, n, f, r, 0.0)
+    def steps(count, faults):
+        for x in samples(dice, count):
+            yield ("cstep", 0, x, 0.0, 0.0)
+        for x in faults:
+            yield ("cstep", 0, x, 0.0, 0.0)
+            yield ("cstep", 0, dice.uniform(-1, 1), 0.0, 0.0)
+    yield from steps(1, [])  # the blank cascade
+    yield ("creset", 0, 0.0, 0.0, 0.0)
+    for kind in ("lowpass", "highpass"):
+        for n in range(0, 10):
+            yield pass_design(kind, n, 1000.0, 10000.0)
+            yield from steps(4, [NAN_F] if n % 3 == 0 else [INF] if n % 3 == 1 else [-INF])
+            yield ("creset", 0, 0.0, 0.0, 0.0)
+            yield from steps(3, [])
+    for n in range(0, 6):
+        yield ("bandpass", n, 1000.0, 2000.0, 10000.0)
+        yield from steps(4, [NAN_F])
+        yield ("creset", 0, 0.0, 0.0, 0.0)
+        yield from steps(2, [])
+        yield ("bandpass", n, 1.0, 4000.0, 10000.0)
+        yield ("bandpass", n, 999.5, 1000.5, 10000.0)
+    for rate in RATES:
+        for f in cutoffs(dice, rate):
+            yield pass_design(dice.choice(["lowpass", "highpass"]), dice.randint(1, 8), f, rate)
+        low, high = sorted([dice.uniform(0.01, 0.45), dice.uniform(0.01, 0.45)])
+        yield ("bandpass", dice.randint(1, 4), low * rate, high * rate, rate)
+    for low, high, rate in ((0.0, 1.0, 10.0), (NAN_F, 1.0, 10.0), (1.0, NAN_F, 10.0), (2.0, 1.0, 10.0), (2.0, 2.0, 10.0), (1.0, 5.0, 10.0),
+                            (1.0, 4.9, 10.0), (100.0, 200.0, 0.0), (100.0, 200.0, NAN_F), (1e-82, 2e-82, 1.0), (1.0, 1.0001, 4.0), (1.0, 2.0, INF)):
+        yield ("bandpass", dice.randint(1, 4), low, high, rate)
+    for n in (2, 8, 9, 0):
+        for f, r in ((500.0, 1000.0), (499.0, 1000.0), (-1.0, 0.0), (NAN_F, 0.0), (1.0, NAN_F)):
+            yield pass_design("lowpass", n, f, r)
+
+
+def line(q):
+    kind, n, a, b, c = q
+    if kind == "cstep":
+        return f"cstep {hexadecimal(a)}"
+    if kind == "creset":
+        return "creset"
+    numbers = [a, b, c] if kind == "bandpass" else [a, b]
+    return " ".join([kind, str(n)] + [hexadecimal(x) for x in numbers])
+
+
+def words(answer):
+    tokens = answer.split()
+    number = lambda t: NAN if t == "NaN" else int(t, 16)
+    if tokens[0] == "cascade":
+        return [0, int(tokens[1]), int(tokens[2])] + [number(t) for t in tokens[3:]]
+    if tokens[0] in ("clear", "clouded"):
+        return [["clear", "clouded"].index(tokens[0]), number(tokens[1])]
+    return [0] if tokens[0] == "done" else [int(tokens[1])]
+
+
+def ask(lines):
+    done = subprocess.run(["target/oracle/oracle"], input="\n".join(lines) + "\n", capture_output=True, text=True)
+    if done.returncode:
+        sys.exit(done.stderr)
+    return done.stdout.splitlines()
+
+
+def main():
+    dice = random.Random(1)
+    asked = list(requests(dice))
+    answers = ask([line(q) for q in asked])
+    assert len(answers) == len(asked)
+    table = []
+    for q, answer in zip(asked, answers):
+        kind, n, a, b, c = q
+        expected = words(answer)
+        if kind == "cstep" and answer.startswith("refused"):
+            expected = [2] + expected
+        table += [KINDS[kind], n, bits(a), bits(b), bits(c), len(expected)] + expected
+    rows = "".join(f"    0x{w:x},\n" for w in table)
+    with open("crates/replay/src/table.rt", "w") as out:
+        out.write("// Made by tools/replay.py from the Rust's answers. A request is its kind, an order, three numbers, how many words its answer\n"
+                  "// has, and the answer.\n\n"
+                  f"pub const COUNT: usize = {len(table)};\n\npub const WORDS: [u64; {len(table)}] = [\n{rows}];\n")
+    with open("crates/replay/stdout", "w") as out:
+        out.write(f"{len(asked)} requests, {len(asked)} agree with the Rust\n")
+    print(f"{len(asked)} requests, {len(table)} words")
+
+
+if __name__ == "__main__":
+    main()
