@@ -1,3 +1,5 @@
 -- What the claims say.
 pub mod Ieee
 pub mod Elementary
+pub mod Fresh
+pub mod Sheet

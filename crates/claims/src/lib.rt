@@ -3,6 +3,8 @@
 ghost use mathlib.Core.Path.{_≡_};
 ghost use Rattle.claims.specs.Ieee.{MeetsIeee754, Determined, OverflowsAtMidpoint};
 ghost use Rattle.claims.specs.Elementary.{NearestIsNearest, LnSplits, constantsOf};
+ghost use Rattle.claims.specs.Fresh.{AcceptedIsFresh};
+ghost use Rattle.claims.specs.Sheet.{ReleaseSheet};
 
 // Demand 2: "Arithmetic and square root meet IEEE 754 by proof."
 pub fn arithmetic_meets_ieee_754()
@@ -52,3 +54,13 @@ pub fn constants_have_their_bits() -> Constants
         epsilon: scalar::EPSILON,
     }
 }
+
+// What an accepted design returns is fresh.
+pub fn accepted_designs_are_fresh()
+    ensures { λ _. ⌜ AcceptedIsFresh ⌝ }
+{}
+
+// The calculations on the release sheet, rows 1 to 6 and 8 to 11.
+pub fn release_sheet()
+    ensures { λ _. ⌜ ReleaseSheet ⌝ }
+{}

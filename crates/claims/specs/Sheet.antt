@@ -1,0 +1,70 @@
+-- 01 "Calculations on the release sheet", over the definitions: one table, of what each row computes and what the sheet states, as numbers: a float by its bit
+-- pattern, a refusal by its number, 0 for none. Rows 7 and 12 to 14 are not in it yet. Definitions only.
+use mathlib.Core.Path.{_≡_}
+use mathlib.Core.List.{List, [], _∷_, map}
+use Prim.Native.Nat.{ℕ}
+use lib.Ieee.{Float, binary64, neg, toBits}
+use Rattle.scalar.specs.Operators.{nat}
+use Rattle.cascade.specs.Section.{Biquad, sectionOut, sectionNext}
+use Rattle.cascade.specs.FirstOrder.{FirstPart, firstOut, firstNext}
+use Rattle.designs.specs.Butterworth.{lpBiquad, hpBiquad, lpFirst, hpFirst, validateParams}
+use Rattle.designs.specs.BandPass.{validateBand}
+
+abbrev pub patterns : List Float → List ℕ
+patterns xs = map (toBits binary64) xs
+
+abbrev pub firstCoefficients : FirstPart → List ℕ
+firstCoefficients p = patterns (p .b0 ∷ p .b1 ∷ p .a1 ∷ [])
+
+abbrev pub coefficients : Biquad → List ℕ
+coefficients s = patterns (s .b0 ∷ s .b1 ∷ s .b2 ∷ s .a1 ∷ s .a2 ∷ [])
+
+-- what a part answers to samples one after the other
+abbrev pub firstAnswers : FirstPart → List Float → List Float
+firstAnswers p [] = []
+firstAnswers p (x ∷ xs) = firstOut binary64 p x ∷ firstAnswers (firstNext binary64 p x) xs
+
+abbrev pub answers : Biquad → List Float → List Float
+answers s [] = []
+answers s (x ∷ xs) = sectionOut binary64 s x ∷ answers (sectionNext binary64 s x) xs
+
+-- the sheet's numbers by their patterns
+abbrev pub zero½ : ℕ
+zero½ = 0x3FE0000000000000
+
+abbrev pub zero¼ : ℕ
+zero¼ = 0x3FD0000000000000
+
+abbrev pub minus½ : ℕ
+minus½ = 0xBFE0000000000000
+
+pub record Row : Type 0 where
+  pub computed : List ℕ
+  pub stated : List ℕ
+
+abbrev pub row : List ℕ → List ℕ → Row
+row c s = record { computed = c; stated = s }
+
+-- row 10 speaks of any cutoff
+abbrev pub sheet : Float → List Row
+sheet cutoff =
+    -- 1. First-order low pass, k = 1: 0.5, 0.5, 0. 2. High pass: 0.5, −0.5, 0
+    row (firstCoefficients (lpFirst (nat 1))) (zero½ ∷ zero½ ∷ 0 ∷ [])
+    ∷ row (firstCoefficients (hpFirst (nat 1))) (zero½ ∷ minus½ ∷ 0 ∷ [])
+    -- 3. Low section, σ −1, ω 0, k 1: 0.25, 0.5, 0.25, 0, 0. 4. High: 0.25, −0.5, 0.25, 0, 0
+    ∷ row (coefficients (lpBiquad (neg (nat 1)) (nat 0) (nat 1))) (zero¼ ∷ zero½ ∷ zero¼ ∷ 0 ∷ 0 ∷ [])
+    ∷ row (coefficients (hpBiquad (neg (nat 1)) (nat 0) (nat 1))) (zero¼ ∷ minus½ ∷ zero¼ ∷ 0 ∷ 0 ∷ [])
+    -- 5. Row 1 on 1, 0, 0: 0.5, 0.5, 0. 6. Row 3 on 1, 0, 0, 0: 0.25, 0.5, 0.25, 0
+    ∷ row (patterns (firstAnswers (lpFirst (nat 1)) (nat 1 ∷ nat 0 ∷ nat 0 ∷ []))) (zero½ ∷ zero½ ∷ 0 ∷ [])
+    ∷ row (patterns (answers (lpBiquad (neg (nat 1)) (nat 0) (nat 1)) (nat 1 ∷ nat 0 ∷ nat 0 ∷ nat 0 ∷ []))) (zero¼ ∷ zero½ ∷ zero¼ ∷ 0 ∷ [])
+    -- 8. Low pass order 2, rate 1000: cutoff 500 draws 2; 499 passes the checks
+    ∷ row (validateParams (nat 500) (nat 1000) 2 ∷ validateParams (nat 499) (nat 1000) 2 ∷ []) (2 ∷ 0 ∷ [])
+    -- 9. Low pass order 9, rate 0, cutoff −1: 1. 10. Low pass order 8, rate 0, any cutoff: 3. 11. Band pass order 2, 100 to 200, rate 0: 2
+    ∷ row (validateParams (neg (nat 1)) (nat 0) 9 ∷ []) (1 ∷ [])
+    ∷ row (validateParams cutoff (nat 0) 8 ∷ []) (3 ∷ [])
+    ∷ row (validateBand (nat 100) (nat 200) (nat 0) 2 ∷ []) (2 ∷ [])
+    ∷ []
+
+-- every row computes what it states
+pub record ReleaseSheet : Type 0 where
+  pub holds : (cutoff : Float) → map (λ (r : Row). r .computed) (sheet cutoff) ≡ map (λ (r : Row). r .stated) (sheet cutoff)
