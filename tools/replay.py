@@ -11,7 +11,7 @@ import struct
 import subprocess
 import sys
 
-KINDS = {"lowpass": 1, "highpass": 2, "bandpass": 3, "cstep": 4, "creset": 5}
+KINDS = {"lowpass": 1, "highpass": 2, "bandpass": 3, "cstep": 4, "creset": 5, "chebyshev1": 6, "chebyshev2": 7}
 NAN = 0x7FF8000000000000
 
 
@@ -77,6 +77,29 @@ def requests(dice):
     for n in (2, 8, 9, 0):
         for f, r in ((500.0, 1000.0), (499.0, 1000.0), (-1.0, 0.0), (NAN_F, 0.0), (1.0, NAN_F)):
             yield pass_design("lowpass", n, f, r)
+    yield from chebyshev(dice, steps)
+
+
+CHEBYSHEV_RATES = [1.0, 8000.0, 10000.0, 48000.0, 1e-310, 1e300, INF]
+DECIBELS = [0.1, 0.5, 1.0, 3.0, 40.0, 60.0, 5e-324, 1e-300, 400.0, 3100.0, INF]
+
+
+def chebyshev(dice, steps):
+    """Every order of both types at a usual rate with steps, and at every rate of CHEBYSHEV_RATES."""
+    for kind in ("chebyshev1", "chebyshev2"):
+        for n in range(0, 10):
+            yield (kind, n, 1000.0, 1.0 if kind == "chebyshev1" else 40.0, 10000.0)
+            yield from steps(3, [INF] if n % 3 == 0 else [NAN_F] if n % 3 == 1 else [-INF])
+            yield ("creset", 0, 0.0, 0.0, 0.0)
+            yield from steps(2, [])
+            for rate in CHEBYSHEV_RATES:
+                cutoff = 1e300 if rate == INF else rate * dice.uniform(0.001, 0.499)
+                yield (kind, n, cutoff, dice.choice(DECIBELS), rate)
+        for db in DECIBELS + [0.0, -0.0, -1.0, -INF, NAN_F]:
+            for f, r in ((1000.0, 8000.0), (NAN_F, 8000.0), (4000.0, 8000.0), (1.0, 0.0)):
+                yield (kind, dice.randint(1, 8), f, db, r)
+        yield (kind, 9, 0.0, 0.0, 0.0)
+        yield (kind, 0, NAN_F, NAN_F, NAN_F)
 
 
 def line(q):
@@ -85,7 +108,7 @@ def line(q):
         return f"cstep {hexadecimal(a)}"
     if kind == "creset":
         return "creset"
-    numbers = [a, b, c] if kind == "bandpass" else [a, b]
+    numbers = [a, b] if kind in ("lowpass", "highpass") else [a, b, c]
     return " ".join([kind, str(n)] + [hexadecimal(x) for x in numbers])
 
 

@@ -1,12 +1,12 @@
 -- The check, and what a step returns. Assumes nothing.
 use mathlib.Core.Path.{_≡_, refl, sym, ap, ap₂, _∙_}
 use mathlib.Core.Bool.{Bool, true, false, _&&_, _||_, true≢false}
-use Prim.Native.Nat.{ℕ, _≤_}
+use Prim.Native.Nat.{_≤_}
 use lib.Dec.{leb, ltb}
 use lib.Ieee.{Float, Format}
 use borrow.Author.Tests.{leb-true}
 use Rattle.runs.specs.Runs.{marked, answer}
-use Rattle.cascade.specs.Cascade.{CascadeRecord, checkCascade, value, mark, next, cascade}
+use Rattle.cascade.specs.Cascade.{CascadeRecord, checkCascade, value, next, cascade}
 
 -- a record that passes its check has at most 4 sections
 pub count-in : (c : CascadeRecord) → checkCascade c ≡ true → c .count ≤ 4

@@ -6,7 +6,7 @@ use native.Mathlib.Numerals.{add-one}
 use native.Mathlib.Omega.{arith}
 use lib.ListN.{length, getD, set, length-map, List·getD-map}
 use lib.Ieee.{Float, Format}
-use Rattle.cascade.specs.Section.{Biquad, sectionOut, sectionNext}
+use Rattle.sections.specs.Section.{Biquad, sectionOut, sectionNext}
 use Rattle.cascade.specs.Cascade.{sectionsOut, sectionsNext}
 
 pub map-set : {A B : Type 0} (g : A → B) (l : List A) (i : ℕ) (a : A) → map g (set l i a) ≡ set (map g l) i (g a)

@@ -8,8 +8,8 @@ use lib.Ieee.{Float, Format}
 use lib.Ieee.Scale.{finite}
 use Rattle.runs.specs.Refusals.{BadCascade}
 use Rattle.runs.specs.Runs.{Filter}
-use Rattle.cascade.specs.Section.{Biquad, blankBiquad, clearedBiquad, sectionOut, sectionNext}
-use Rattle.cascade.specs.FirstOrder.{FirstPart, blankFirst, clearedFirst, firstOut, firstNext}
+use Rattle.sections.specs.Section.{Biquad, blankBiquad, clearedBiquad, sectionOut, sectionNext}
+use Rattle.sections.specs.FirstOrder.{FirstPart, blankFirst, clearedFirst, firstOut, firstNext}
 
 -- four sections, a count, a first-order part with a flag, and a cloud flag
 pub record CascadeRecord : Type 0 where

@@ -1,5 +1,3 @@
--- 01 "Section" and "Cascade". Section, FirstOrder and Cascade are over any float format; View reads the code's types at f64 as their records.
-pub mod Section
-pub mod FirstOrder
+-- 01 "Cascade". Cascade is over any float format; View reads the code's types at f64 as its records.
 pub mod Cascade
 pub mod View

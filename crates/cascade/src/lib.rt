@@ -1,23 +1,21 @@
 // 01 "Cascade": four second-order sections, a first-order part, and running them a sample at a time. The Rust has this
 // once for each kind of filter (ButterworthLp, ButterworthHp, ButterworthBp, ChebyshevI, ChebyshevII); here it stands
 // once.
-mod first_order;
-mod section;
-
-pub use first_order::FirstOrder;
-pub use section::Section;
 ghost use mathlib.Core.Path.{_≡_};
 ghost use mathlib.Core.Bool.{cond, _||_};
 ghost use mathlib.Core.List.{map};
 ghost use Prim.Native.Nat.{_≤_};
 ghost use lib.Ieee.{binary64};
 ghost use Rattle.runs.specs.Runs.{step, reset};
-ghost use Rattle.cascade.specs.Section.{clearedBiquad};
-ghost use Rattle.cascade.specs.FirstOrder.{firstOut, firstNext};
+ghost use Rattle.sections.specs.Section.{clearedBiquad};
+ghost use Rattle.sections.specs.FirstOrder.{firstOut, firstNext};
+ghost use Rattle.sections.specs.View.{sectionView, firstView};
 ghost use Rattle.cascade.specs.Cascade.{sectionsOut, sectionsNext, value, moved, clouding, next, checkCascade, blankCascade, cascade};
-ghost use Rattle.cascade.specs.View.{sectionView, firstView, cascadeView, updatedView, resetView};
-use first_order::FirstProcessed;
+ghost use Rattle.cascade.specs.View.{cascadeView, updatedView, resetView};
 use runs::Answer;
+use sections::FirstOrder;
+use sections::FirstProcessed;
+use sections::Section;
 
 pub struct Cascade {
     pub sections: [Section; 4],

@@ -3,10 +3,12 @@ use mathlib.Core.Path.{_≡_}
 use Prim.Native.Nat.{ℕ}
 use lib.Ieee.{Float}
 use Rattle.cascade.specs.Cascade.{FreshCascade}
-use Rattle.designs.specs.Butterworth.{butterworthLp, butterworthHp}
+use Rattle.designs.specs.LowPass.{butterworthLp, butterworthHp, chebyshev1Lp, chebyshev2Lp}
 use Rattle.designs.specs.BandPass.{butterworthBp}
 
 pub record AcceptedIsFresh : Type 0 where
   pub lowPass : (n : ℕ) (cutoff rate : Float) → butterworthLp n cutoff rate .refusal ≡ 0 → FreshCascade (butterworthLp n cutoff rate .cascade)
   pub highPass : (n : ℕ) (cutoff rate : Float) → butterworthHp n cutoff rate .refusal ≡ 0 → FreshCascade (butterworthHp n cutoff rate .cascade)
+  pub chebyshevI : (n : ℕ) (cutoff db rate : Float) → chebyshev1Lp n cutoff db rate .refusal ≡ 0 → FreshCascade (chebyshev1Lp n cutoff db rate .cascade)
+  pub chebyshevII : (n : ℕ) (cutoff db rate : Float) → chebyshev2Lp n cutoff db rate .refusal ≡ 0 → FreshCascade (chebyshev2Lp n cutoff db rate .cascade)
   pub bandPass : (n : ℕ) (low high rate : Float) → butterworthBp n low high rate .refusal ≡ 0 → FreshCascade (butterworthBp n low high rate .cascade)

@@ -5,9 +5,10 @@ use mathlib.Core.List.{List, [], _∷_, map}
 use Prim.Native.Nat.{ℕ}
 use lib.Ieee.{Float, binary64, neg, toBits}
 use Rattle.scalar.specs.Operators.{nat}
-use Rattle.cascade.specs.Section.{Biquad, sectionOut, sectionNext}
-use Rattle.cascade.specs.FirstOrder.{FirstPart, firstOut, firstNext}
-use Rattle.designs.specs.Butterworth.{lpBiquad, hpBiquad, lpFirst, hpFirst, validateParams}
+use Rattle.sections.specs.Section.{Biquad, sectionOut, sectionNext}
+use Rattle.sections.specs.FirstOrder.{FirstPart, firstOut, firstNext}
+use Rattle.poles.specs.Butterworth.{lpBiquad, hpBiquad, lpFirst, hpFirst}
+use Rattle.designs.specs.LowPass.{validateParams}
 use Rattle.designs.specs.BandPass.{validateBand}
 
 abbrev pub patterns : List Float → List ℕ

@@ -1,23 +1,29 @@
 -- Every accepted design is fresh. Assumes nothing.
-use mathlib.Core.Path.{_≡_, refl, sym, ap₂, _∙_}
-use mathlib.Core.Bool.{Bool, true, false, cond, _&&_, _||_, true≢false}
+use mathlib.Core.Path.{_≡_, refl, sym, ap₂}
+use mathlib.Core.Bool.{Bool, true, false, cond, _||_}
 use mathlib.Core.List.{List, [], _∷_, _++_, map}
 use Prim.Native.Nat.{ℕ, zero, suc, _+_, _/_, _%_, _<_, _≤_}
 use native.Mathlib.Omega.{arith}
-use lib.Dec.{ltb, leb, eqb}
+use lib.Dec.{ltb, eqb}
 use lib.Ieee.{Float, le}
 use borrow.Author.Tests.{le-leb, lt-ltb, ltb-false, eq-eqb, eqb-true, eqb-false}
-use Rattle.cascade.specs.Section.{Biquad, blankBiquad, clearedBiquad}
-use Rattle.cascade.specs.FirstOrder.{FirstPart, blankFirst, clearedFirst}
+use Rattle.sections.specs.Section.{Biquad, clearedBiquad}
+use Rattle.sections.specs.FirstOrder.{blankFirst, clearedFirst}
 use Rattle.cascade.specs.Cascade.{CascadeRecord, checkCascade, clearedCascade, FreshCascade}
 use Rattle.scalar.specs.Operators.{_⊖_, _⊗_}
 use Rattle.scalar.specs.Constants.{plusZero, half}
-use Rattle.designs.specs.Design.{DesignRecord, refusedDesign, accepted, unlessRefused, placed, upTo}
-use Rattle.designs.specs.Butterworth.{lpBiquad, hpBiquad, lpFirst, hpFirst, passBiquad, realPole, passPair, passFirst, passCascade, validateParams, warped, butterworthPass}
-use Rattle.designs.specs.BandPass.{bandBiquad, bpBiquad, bpPair, bpPairOf, bpReal, bpUpTo, bpSections, bpCascade, validateBand, butterworthBp}
-use Rattle.designs.specs.declared.butterworth.Pass.{Pass}
-use Rattle.designs.specs.declared.butterworth.Pass.the-variants.{Low, High}
-use Rattle.designs.proofs.Laws.{good-params, good-band}
+use Rattle.designs.specs.Design.{refusedDesign, accepted, unlessRefused, placed, upTo}
+use Rattle.poles.specs.Butterworth.{lpBiquad, hpBiquad, lpFirst, hpFirst}
+use Rattle.poles.specs.BandPass.{bandBiquad, bpBiquad, bpPair, bpReal}
+use Rattle.poles.specs.Chebyshev.{cheb1Biquad, cheb2Biquad, chebFirst}
+use Rattle.designs.specs.Butterworth.{warped, lpPair, hpPair}
+use Rattle.designs.specs.Chebyshev.{cheb1Pair, cheb2Pair}
+use Rattle.designs.specs.Prototype.{pairOf, realPart, firstOf, prototypeCascade}
+use Rattle.designs.specs.LowPass.{validateParams, validateChebyshev, butterworthLp, butterworthHp, chebyshev1Lp, chebyshev2Lp}
+use Rattle.designs.specs.BandPass.{bpPairOf, bpUpTo, bpSections, bpCascade, validateBand, butterworthBp}
+use Rattle.designs.specs.declared.prototype.Prototype.{Prototype}
+use Rattle.designs.specs.declared.prototype.Prototype.the-variants.{ButterworthLow, ButterworthHigh, ChebyshevI, ChebyshevII}
+use Rattle.designs.proofs.Laws.{good-params, good-chebyshev, good-band}
 
 -- a section that carries +0, and a list of such
 abbrev Clear : Biquad → Type 0
@@ -64,23 +70,28 @@ accepted-fresh v c f h = go (eqb v 0) refl h
     go true t h = f (eqb-true v 0 t)
     go false t h = absurd (eqb-false v 0 t h)
 
--- ---- low pass and high pass
-pair-clear : (pass : Pass) (n : ℕ) (k : Float) (m : ℕ) → Clear (passPair pass n k m)
-unfolding passPair lpBiquad hpBiquad
-pair-clear Low n k m = refl
-pair-clear High n k m = refl
+-- ---- the designs of poles
+pair-clear : (p : Prototype) (n m : ℕ) → Clear (pairOf p n m)
+unfolding lpPair hpPair cheb1Pair cheb2Pair lpBiquad hpBiquad cheb1Biquad cheb2Biquad
+pair-clear (ButterworthLow k) n m = refl
+pair-clear (ButterworthHigh k) n m = refl
+pair-clear (ChebyshevI sinhA coshA k) n m = refl
+pair-clear (ChebyshevII sinhA coshA k) n m = refl
 
-first-clear : (pass : Pass) (n : ℕ) (k : Float) → clearedFirst (passFirst pass n k) ≡ passFirst pass n k
-unfolding passFirst
-first-clear pass n k = go (eqb (n % 2) 0) pass
+real-part-clear : (p : Prototype) → clearedFirst (realPart p) ≡ realPart p
+unfolding lpFirst hpFirst chebFirst
+real-part-clear (ButterworthLow k) = refl
+real-part-clear (ButterworthHigh k) = refl
+real-part-clear (ChebyshevI sinhA coshA k) = refl
+real-part-clear (ChebyshevII sinhA coshA k) = refl
+
+first-clear : (p : Prototype) (n : ℕ) → clearedFirst (firstOf p n) ≡ firstOf p n
+unfolding firstOf
+first-clear p n = go (eqb (n % 2) 0)
   where
-    real : (pass : Pass) → clearedFirst (realPole pass k) ≡ realPole pass k
-    real Low = unfold lpFirst in refl
-    real High = unfold hpFirst in refl
-
-    go : (b : Bool) (pass : Pass) → clearedFirst (cond b blankFirst (realPole pass k)) ≡ cond b blankFirst (realPole pass k)
-    go true pass = refl
-    go false pass = real pass
+    go : (b : Bool) → clearedFirst (cond b blankFirst (realPart p)) ≡ cond b blankFirst (realPart p)
+    go true = refl
+    go false = real-part-clear p
 
 used : (n : ℕ) → 0 < n → (ltb 0 (n / 2) || eqb (n % 2) 1) ≡ true
 used n h = go (ltb 0 (n / 2)) refl
@@ -89,15 +100,25 @@ used n h = go (ltb 0 (n / 2)) refl
     go true e = refl
     go false e = let z = ltb-false 0 (n / 2) e in eq-eqb (n % 2) 1 (omega arith)
 
-pub pass-fresh : (pass : Pass) (n : ℕ) (k : Float) → 0 < n → n ≤ 8 → FreshCascade (passCascade pass n k)
-unfolding passCascade
-pass-fresh pass n k h l = fresh _ (omega arith) (used n h) (placed-clear 4 _ (upTo-clear (passPair pass n k) (pair-clear pass n k) (n / 2))) (first-clear pass n k) refl
+prototype-fresh : (p : Prototype) (n : ℕ) → (0 < n) × (n ≤ 8) → FreshCascade (prototypeCascade p n)
+unfolding prototypeCascade
+prototype-fresh p n h = fresh _ (omega (arith, h .1)) (used n (h .0)) (placed-clear 4 _ (upTo-clear (pairOf p n) (pair-clear p n) (n / 2))) (first-clear p n) refl
 
-pub butterworth-fresh : (pass : Pass) (n : ℕ) (cutoff rate : Float) → butterworthPass pass n cutoff rate .refusal ≡ 0 → FreshCascade (butterworthPass pass n cutoff rate .cascade)
-unfolding butterworthPass
-butterworth-fresh pass n cutoff rate =
-    accepted-fresh (validateParams cutoff rate n) (passCascade pass n (warped cutoff rate))
-    (λ (e : validateParams cutoff rate n ≡ 0). let p = good-params cutoff rate n e in pass-fresh pass n (warped cutoff rate) (p .0) (p .1))
+pub butterworth-lp-fresh : (n : ℕ) (cutoff rate : Float) → butterworthLp n cutoff rate .refusal ≡ 0 → FreshCascade (butterworthLp n cutoff rate .cascade)
+unfolding butterworthLp
+butterworth-lp-fresh n cutoff rate = accepted-fresh (validateParams cutoff rate n) _ (λ e. prototype-fresh _ n (good-params cutoff rate n e))
+
+pub butterworth-hp-fresh : (n : ℕ) (cutoff rate : Float) → butterworthHp n cutoff rate .refusal ≡ 0 → FreshCascade (butterworthHp n cutoff rate .cascade)
+unfolding butterworthHp
+butterworth-hp-fresh n cutoff rate = accepted-fresh (validateParams cutoff rate n) _ (λ e. prototype-fresh _ n (good-params cutoff rate n e))
+
+pub chebyshev1-fresh : (n : ℕ) (cutoff db rate : Float) → chebyshev1Lp n cutoff db rate .refusal ≡ 0 → FreshCascade (chebyshev1Lp n cutoff db rate .cascade)
+unfolding chebyshev1Lp
+chebyshev1-fresh n cutoff db rate = accepted-fresh (validateChebyshev cutoff db rate n) _ (λ e. prototype-fresh _ n (good-chebyshev cutoff db rate n e))
+
+pub chebyshev2-fresh : (n : ℕ) (cutoff db rate : Float) → chebyshev2Lp n cutoff db rate .refusal ≡ 0 → FreshCascade (chebyshev2Lp n cutoff db rate .cascade)
+unfolding chebyshev2Lp
+chebyshev2-fresh n cutoff db rate = accepted-fresh (validateChebyshev cutoff db rate n) _ (λ e. prototype-fresh _ n (good-chebyshev cutoff db rate n e))
 
 -- ---- band pass
 band-clear : (sum product bw : Float) → Clear (bandBiquad sum product bw)

@@ -1,17 +1,18 @@
 -- What the checks leave. Assumes nothing.
-use mathlib.Core.Path.{_≡_, refl, sym}
+use mathlib.Core.Path.{_≡_, refl}
 use mathlib.Core.Bool.{Bool, true, false, cond, _||_, true≢false}
-use Prim.Native.Nat.{ℕ, zero, suc, _<_, _≤_}
+use Prim.Native.Nat.{ℕ, zero, suc, _^_, _<_, _≤_}
 use native.Mathlib.Nat.{zero-lt-suc}
 use native.Mathlib.Omega.{arith}
-use lib.Dec.{ltb, eqb}
-use lib.Ieee.{Float}
+use lib.Dec.{T, ltb, eqb, le→leb}
+use lib.IntN.{pos}
+use lib.Ieee.{Float, binary64, inFloat}
 use borrow.Author.Tests.{ltb-false, eq-eqb, ne-eqb}
 use Rattle.cascade.specs.Cascade.{CascadeRecord}
 use Rattle.runs.specs.Refusals.{InvalidOrder}
 use Rattle.designs.specs.Checks.{orderRefused}
 use Rattle.designs.specs.Design.{refusedDesign, accepted, unlessRefused}
-use Rattle.designs.specs.Butterworth.{validateParams}
+use Rattle.designs.specs.LowPass.{validateParams, validateChebyshev}
 use Rattle.designs.specs.BandPass.{validateBand}
 
 either-no : (a b : Bool) → (a || b) ≡ false → b ≡ false
@@ -36,6 +37,10 @@ pub good-params : (cutoff rate : Float) (n : ℕ) → validateParams cutoff rate
 unfolding validateParams
 good-params cutoff rate n e = good-order n 8 (first-passed (orderRefused n 8) _ e)
 
+pub good-chebyshev : (cutoff db rate : Float) (n : ℕ) → validateChebyshev cutoff db rate n ≡ 0 → (0 < n) × (n ≤ 8)
+unfolding validateChebyshev
+good-chebyshev cutoff db rate n e = good-order n 8 (first-passed (orderRefused n 8) _ e)
+
 pub good-band : (low high rate : Float) (n : ℕ) → validateBand low high rate n ≡ 0 → (0 < n) × (n ≤ 4)
 unfolding validateBand
 good-band low high rate n e = good-order n 4 (first-passed (orderRefused n 4) _ e)
@@ -46,3 +51,8 @@ is-refused v c h = rw (ne-eqb v 0 h)
 
 pub is-accepted : (v : ℕ) (c : CascadeRecord) → v ≡ 0 → accepted c ≡ unlessRefused v c
 is-accepted v c h = rw (eq-eqb v 0 h)
+
+-- ---- a whole number that an f64 holds
+pub small-float : (n : ℕ) → n ≤ 100 → T (inFloat binary64 (pos n))
+unfolding inFloat
+small-float n h = le→leb n (2 ^ 53) (omega arith)

@@ -1,12 +1,12 @@
 -- Sections put into their places one after the other, whatever type the code has for a section. Assumes nothing.
 use mathlib.Core.Path.{_≡_, refl, sym, ap, _∙_}
 use mathlib.Core.List.{List, [], _∷_, _++_, map, append-assoc}
-use Prim.Native.Nat.{ℕ, zero, suc, _+_, _*_, _<_, _≤_}
+use Prim.Native.Nat.{ℕ, zero, suc, _+_, _*_, _<_}
 use native.Mathlib.Numerals.{add-one}
 use native.Mathlib.Omega.{arith}
 use lib.ListN.{length, set, length-append}
 use lib.Ieee.{Float}
-use Rattle.cascade.specs.Section.{Biquad, blankBiquad}
+use Rattle.sections.specs.Section.{Biquad, blankBiquad}
 use Rattle.cascade.proofs.Loops.{map-set}
 use Rattle.designs.specs.Design.{placed, upTo}
 use Rattle.designs.specs.BandPass.{bpUpTo, bpPairOf}

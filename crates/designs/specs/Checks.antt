@@ -10,9 +10,16 @@ use Rattle.scalar.specs.Constants.{half, plusZero}
 unfoldable pub orderRefused : ℕ → ℕ → Bool
 orderRefused n most = eqb n 0 || ltb most n
 
--- 3: rate NaN or at most 0
-unfoldable pub rateRefused : Float → Bool
-rateRefused r = isNan r || le r plusZero
+-- NaN or at most 0
+unfoldable pub notPositive : Float → Bool
+notPositive x = isNan x || le x plusZero
+
+-- 3: rate NaN or at most 0; 4: decibels NaN or at most 0
+abbrev pub rateRefused : Float → Bool
+rateRefused r = notPositive r
+
+abbrev pub rippleRefused : Float → Bool
+rippleRefused db = notPositive db
 
 -- 2: cutoff NaN, at most 0, or at least rate × 0.5
 unfoldable pub cutoffRefused : Float → Float → Bool

@@ -4,7 +4,7 @@ use mathlib.Core.Bool.{cond}
 use mathlib.Core.List.{List, [], _∷_, _++_}
 use lib.Dec.{eqb}
 use Rattle.runs.specs.Refusals.{Accepted}
-use Rattle.cascade.specs.Section.{Biquad, blankBiquad}
+use Rattle.sections.specs.Section.{Biquad, blankBiquad}
 use Rattle.cascade.specs.Cascade.{CascadeRecord, blankCascade}
 
 pub record DesignRecord : Type 0 where

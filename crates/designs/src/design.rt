@@ -1,6 +1,6 @@
 // What the cascade designs have in common: what they return, and the checks of 01's table.
 ghost use mathlib.Core.Path.{_≡_};
-ghost use Rattle.designs.specs.Checks.{orderRefused, rateRefused, cutoffRefused, bandRefused};
+ghost use Rattle.designs.specs.Checks.{orderRefused, notPositive, cutoffRefused, bandRefused};
 ghost use Rattle.designs.specs.Design.{refusedDesign};
 ghost use Rattle.designs.specs.View.{designView};
 use cascade::Cascade;
@@ -30,14 +30,14 @@ pub(crate) fn order_refused(order: usize, most: usize) -> bool
     order > most
 }
 
-// 3: rate NaN or at most 0.
-pub(crate) fn rate_refused(rate: f64) -> bool
-    ensures { λ r. ⌜ r ≡ rateRefused rate ⌝ }
+// 3, of a rate, and 4, of decibels: NaN or at most 0.
+pub(crate) fn not_positive(x: f64) -> bool
+    ensures { λ r. ⌜ r ≡ notPositive x ⌝ }
 {
-    if rate != rate {
+    if x != x {
         return true;
     }
-    rate <= 0.0
+    x <= 0.0
 }
 
 // 2: cutoff NaN, at most 0, or at least rate × 0.5.

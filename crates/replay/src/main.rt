@@ -54,7 +54,7 @@ fn meet_float(p: Place, x: f64) -> Place {
     meet(p, ieee::to_bits(x))
 }
 
-fn meet_section(p: Place, s: cascade::Section) -> Place {
+fn meet_section(p: Place, s: sections::Section) -> Place {
     let p = meet_float(p, s.b0);
     let p = meet_float(p, s.b1);
     let p = meet_float(p, s.b2);
@@ -165,6 +165,14 @@ fn request(at: usize, cascade: Cascade) -> Turn
             designs::design_butterworth_bp(order, float(at + 2), float(at + 3), float(at + 4)),
         ),
         4 => stepped(p, cascade.update(float(at + 2))),
+        6 => designed(
+            p,
+            designs::design_chebyshev1_lp(order, float(at + 2), float(at + 3), float(at + 4)),
+        ),
+        7 => designed(
+            p,
+            designs::design_chebyshev2_lp(order, float(at + 2), float(at + 3), float(at + 4)),
+        ),
         _ => was_reset(p, cascade.reset()),
     }
 }

@@ -1,6 +1,6 @@
 -- `cascade::pass_sections` meets its contract. The loop's invariant: what came out of the first i sections, and the sections after it. The measure is how many
 -- are left. Assumes nothing.
-use mathlib.Core.Path.{_≡_, refl, ap, _∙_}
+use mathlib.Core.Path.{_≡_, _∙_}
 use mathlib.Core.List.{map}
 use Prim.Native.Nat.{_≤_, _<_, _-_}
 use native.Mathlib.Omega.{arith}
@@ -8,7 +8,7 @@ use borrow.Author.Needs.{needs}
 use lib.ListN.{length}
 use lib.Ieee.{binary64}
 use Rattle.cascade.specs.Cascade.{sectionsOut, sectionsNext}
-use Rattle.cascade.specs.View.{sectionView}
+use Rattle.sections.specs.View.{sectionView}
 use Rattle.cascade.proofs.Loops.{turn-out, turn-next}
 use Rattle.cascade.proofs.pass_sections.Statement.{statement}
 use Rattle.cascade.proofs.pass_sections.Tie as tie

@@ -5,8 +5,8 @@ use Prim.Native.Nat.{_≤_, _<_, _-_}
 use native.Mathlib.Omega.{arith}
 use borrow.Author.Needs.{needs}
 use lib.ListN.{length, length-map}
-use Rattle.cascade.specs.Section.{clearedBiquad}
-use Rattle.cascade.specs.View.{sectionView}
+use Rattle.sections.specs.Section.{clearedBiquad}
+use Rattle.sections.specs.View.{sectionView}
 use Rattle.cascade.proofs.Loops.{upTo, upTo-none, upTo-turn, upTo-all}
 use Rattle.cascade.proofs.reset_sections.Statement.{statement}
 use Rattle.cascade.proofs.reset_sections.Tie as tie

@@ -1,14 +1,15 @@
 -- `claims::release_sheet` meets its contract: antt computes the whole table. Assumes nothing.
 use mathlib.Core.Path.{refl}
 use lib.Ieee.{add, sub, mul, div, neg, lt, le, isNan, ofInt, ofBits, toBits}
-use Rattle.designs.specs.Checks.{orderRefused, rateRefused, cutoffRefused, bandRefused}
-use Rattle.designs.specs.Butterworth.{denominatorOf, lpBiquad, hpBiquad, lpFirst, hpFirst, validateParams}
+use Rattle.designs.specs.Checks.{orderRefused, notPositive, cutoffRefused, bandRefused}
+use Rattle.poles.specs.Butterworth.{denominatorOf, lpBiquad, hpBiquad, lpFirst, hpFirst}
+use Rattle.designs.specs.LowPass.{validateParams}
 use Rattle.designs.specs.BandPass.{validateBand}
 use Rattle.claims.proofs.release_sheet.Statement.{statement}
 use Rattle.claims.proofs.release_sheet.Tie as tie
 
 returns : tie.Need-returns
-unfolding denominatorOf lpBiquad hpBiquad lpFirst hpFirst validateParams validateBand orderRefused rateRefused cutoffRefused bandRefused add sub mul div neg lt le isNan ofInt ofBits toBits
+unfolding denominatorOf lpBiquad hpBiquad lpFirst hpFirst validateParams validateBand orderRefused notPositive cutoffRefused bandRefused add sub mul div neg lt le isNan ofInt ofBits toBits
 returns c = record { holds = λ cutoff. refl }
 
 pub release-sheet-spec : {M : Type 1} → statement M

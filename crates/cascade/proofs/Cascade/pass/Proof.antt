@@ -1,11 +1,11 @@
 -- `cascade::Cascade::pass` meets its contract: the values that `moved` ensures, under the flag that `clouds` does. Assumes nothing.
 use mathlib.Core.Path.{_∙_, ap₂}
-use mathlib.Core.Bool.{Bool, _||_}
+use mathlib.Core.Bool.{_||_}
 use lib.Ieee.{Float}
 use Rattle.cascade.specs.Cascade.{CascadeRecord, flagged, clouding, mark, next}
 use Rattle.cascade.specs.View.{cascadeView}
-use mathlib.Core.Path.{_∙_, ap, ap₂}
-use lib.Ieee.{Float, binary64}
+use mathlib.Core.Path.{_∙_, ap₂}
+use lib.Ieee.{Float}
 use borrow.Author.Needs.{needs}
 use Rattle.cascade.proofs.Cascade.pass.Statement.{statement}
 use Rattle.cascade.proofs.Cascade.pass.Tie as tie

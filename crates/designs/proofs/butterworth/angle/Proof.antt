@@ -8,7 +8,7 @@ use lib.Ieee.{binary64, inFloat}
 use Rattle.designs.specs.Butterworth.{angleOf}
 use lib.Dec.{le→leb}
 use lib.Ieee.{inFloat}
-use mathlib.Core.Path.{refl, sym, subst}
+use mathlib.Core.Path.{refl}
 use borrow.Author.Needs.{needs}
 use Rattle.designs.proofs.butterworth.angle.Statement.{statement}
 use Rattle.designs.proofs.butterworth.angle.Tie as tie

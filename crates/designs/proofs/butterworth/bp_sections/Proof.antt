@@ -1,11 +1,11 @@
 -- `designs::butterworth::bp_sections` meets its contract. Assumes nothing.
-use mathlib.Core.Path.{_≡_, _∙_}
+use mathlib.Core.Path.{_≡_}
 use Prim.Native.Nat.{_-_, _/_}
 use native.Mathlib.Omega.{arith}
 use lib.ListN.{length}
 use borrow.Author.Needs.{needs}
 use borrow.Author.Tests.{eq-eqb, ne-eqb}
-use Rattle.cascade.specs.View.{sectionView}
+use Rattle.sections.specs.View.{sectionView}
 use Rattle.designs.specs.BandPass.{bpUpTo, bpSections}
 use Rattle.designs.proofs.Places.{place, band-length}
 use Rattle.designs.proofs.butterworth.bp_sections.Statement.{statement}

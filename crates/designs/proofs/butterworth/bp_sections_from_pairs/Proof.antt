@@ -1,13 +1,14 @@
 -- `designs::butterworth::bp_sections_from_pairs` meets its contract. The loop's invariant: the sections of the first m pairs are in place. The measure is how many
 -- pairs are left. Assumes nothing.
-use mathlib.Core.Path.{_≡_, _∙_, ap, sym}
+use mathlib.Core.Path.{_≡_, _∙_, ap}
 use mathlib.Core.List.{map}
 use Prim.Native.Nat.{ℕ, _≤_, _-_, _/_}
 use native.Mathlib.Omega.{arith}
 use borrow.Author.Needs.{needs}
-use Rattle.cascade.specs.View.{sectionView}
+use Rattle.sections.specs.View.{sectionView}
 use Rattle.designs.specs.Design.{placed}
-use Rattle.designs.specs.BandPass.{BiquadPair, bpUpTo}
+use Rattle.poles.specs.BandPass.{BiquadPair}
+use Rattle.designs.specs.BandPass.{bpUpTo}
 use Rattle.designs.proofs.Places.{band-none, band-turn}
 use Rattle.designs.proofs.butterworth.bp_sections_from_pairs.Statement.{statement}
 use Rattle.designs.proofs.butterworth.bp_sections_from_pairs.Tie as tie

@@ -1,11 +1,8 @@
 -- `designs::butterworth::design_butterworth_bp` meets its contract. Assumes nothing.
-use mathlib.Core.Path.{_≡_, _∙_, sym, ap, ap₂}
+use mathlib.Core.Path.{_∙_, sym, ap, ap₂}
 use Rattle.designs.specs.Design.{accepted, refusedDesign}
-use Rattle.designs.specs.Butterworth.{warped}
 use Rattle.designs.specs.BandPass.{bpCascade, butterworthBp}
 use Rattle.designs.proofs.Laws.{good-band, is-refused, is-accepted}
-use mathlib.Core.Path.{_≡_, _∙_, sym, ap}
-use Rattle.designs.specs.BandPass.{butterworthBp}
 use borrow.Author.Needs.{needs}
 use Rattle.designs.proofs.butterworth.design_butterworth_bp.Statement.{statement}
 use Rattle.designs.proofs.butterworth.design_butterworth_bp.Tie as tie
@@ -21,21 +18,21 @@ unfolding butterworthBp
 returns c = let v = c .before .before .validate-band in
     c .refused .ensures ∙ ap refusedDesign (v .ensures) ∙ is-refused _ _ (λ e. c .before .if1 .taken (v .ensures ∙ e))
 
-tan-requires : tie.Need-tan-requires
-tan-requires c κs = search needs
+warp-requires : tie.Need-warp-requires
+warp-requires c κs = search needs
 
-tan-requires-2 : tie.Need-tan-requires-2
-tan-requires-2 c κs = search needs
+warp-requires-2 : tie.Need-warp-requires-2
+warp-requires-2 c κs = search needs
 
 bp-cascade-requires : tie.Need-bp-cascade-requires
 bp-cascade-requires c κs = let s = c .before .before .before .before in
     good-band (s .args .low) (s .args .high) (s .args .sample-rate) (s .args .order) (sym (c .before .before .before .validate-band .ensures) ∙ c .before .before .if1 .left)
 
 returns-2 : tie.Need-returns-2
-unfolding butterworthBp warped
+unfolding butterworthBp
 returns-2 c = let s = c .before .before .before .before .before in
     let v = c .before .before .before .before .validate-band in
-    ap accepted (c .bp-cascade .ensures ∙ ap₂ (bpCascade (s .args .order)) (c .before .before .tan .ensures) (c .before .tan2 .ensures))
+    ap accepted (c .bp-cascade .ensures ∙ ap₂ (bpCascade (s .args .order)) (c .before .before .warp .ensures) (c .before .warp2 .ensures))
     ∙ is-accepted _ _ (sym (v .ensures) ∙ c .before .before .before .if1 .left)
 
 pub design-butterworth-bp-spec : {M : Type 1} → statement M
@@ -45,7 +42,7 @@ design-butterworth-bp-spec =
     validate-band-requires
     refused-requires
     returns
-    tan-requires
-    tan-requires-2
+    warp-requires
+    warp-requires-2
     bp-cascade-requires
     returns-2)

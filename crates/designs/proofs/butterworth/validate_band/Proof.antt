@@ -20,20 +20,20 @@ unfolding validateBand
 returns-2 c = let d = c .before .before in
     rw (sym (d .before .order-refused .ensures) ∙ d .if1 .left, sym (c .before .band-refused .ensures) ∙ c .if2 .taken)
 
-rate-refused-requires : tie.Need-rate-refused-requires
-rate-refused-requires c κs = search needs
+not-positive-requires : tie.Need-not-positive-requires
+not-positive-requires c κs = search needs
 
 returns-3 : tie.Need-returns-3
 unfolding validateBand
 returns-3 c = let e = c .before .before in
     let d = e .before .before in
-    rw (sym (d .before .order-refused .ensures) ∙ d .if1 .left, sym (e .before .band-refused .ensures) ∙ e .if2 .left, sym (c .before .rate-refused .ensures) ∙ c .if3 .taken)
+    rw (sym (d .before .order-refused .ensures) ∙ d .if1 .left, sym (e .before .band-refused .ensures) ∙ e .if2 .left, sym (c .before .not-positive .ensures) ∙ c .if3 .taken)
 
 returns-4 : tie.Need-returns-4
 unfolding validateBand
 returns-4 c = let e = c .before .before in
     let d = e .before .before in
-    rw (sym (d .before .order-refused .ensures) ∙ d .if1 .left, sym (e .before .band-refused .ensures) ∙ e .if2 .left, sym (c .before .rate-refused .ensures) ∙ c .if3 .left)
+    rw (sym (d .before .order-refused .ensures) ∙ d .if1 .left, sym (e .before .band-refused .ensures) ∙ e .if2 .left, sym (c .before .not-positive .ensures) ∙ c .if3 .left)
 
 pub validate-band-spec : {M : Type 1} → statement M
 validate-band-spec =
@@ -43,6 +43,6 @@ validate-band-spec =
     returns
     band-refused-requires
     returns-2
-    rate-refused-requires
+    not-positive-requires
     returns-3
     returns-4)

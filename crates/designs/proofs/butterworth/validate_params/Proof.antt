@@ -1,6 +1,6 @@
 -- `designs::butterworth::validate_params` meets its contract. Assumes nothing.
 use mathlib.Core.Path.{_∙_, sym}
-use Rattle.designs.specs.Butterworth.{validateParams}
+use Rattle.designs.specs.LowPass.{validateParams}
 use borrow.Author.Needs.{needs}
 use Rattle.designs.proofs.butterworth.validate_params.Statement.{statement}
 use Rattle.designs.proofs.butterworth.validate_params.Tie as tie
@@ -12,13 +12,13 @@ returns : tie.Need-returns
 unfolding validateParams
 returns c = rw (sym (c .before .order-refused .ensures) ∙ c .if1 .taken)
 
-rate-refused-requires : tie.Need-rate-refused-requires
-rate-refused-requires c κs = search needs
+not-positive-requires : tie.Need-not-positive-requires
+not-positive-requires c κs = search needs
 
 returns-2 : tie.Need-returns-2
 unfolding validateParams
 returns-2 c = let d = c .before .before in
-    rw (sym (d .before .order-refused .ensures) ∙ d .if1 .left, sym (c .before .rate-refused .ensures) ∙ c .if2 .taken)
+    rw (sym (d .before .order-refused .ensures) ∙ d .if1 .left, sym (c .before .not-positive .ensures) ∙ c .if2 .taken)
 
 cutoff-refused-requires : tie.Need-cutoff-refused-requires
 cutoff-refused-requires c κs = search needs
@@ -27,13 +27,13 @@ returns-3 : tie.Need-returns-3
 unfolding validateParams
 returns-3 c = let e = c .before .before in
     let d = e .before .before in
-    rw (sym (d .before .order-refused .ensures) ∙ d .if1 .left, sym (e .before .rate-refused .ensures) ∙ e .if2 .left, sym (c .before .cutoff-refused .ensures) ∙ c .if3 .taken)
+    rw (sym (d .before .order-refused .ensures) ∙ d .if1 .left, sym (e .before .not-positive .ensures) ∙ e .if2 .left, sym (c .before .cutoff-refused .ensures) ∙ c .if3 .taken)
 
 returns-4 : tie.Need-returns-4
 unfolding validateParams
 returns-4 c = let e = c .before .before in
     let d = e .before .before in
-    rw (sym (d .before .order-refused .ensures) ∙ d .if1 .left, sym (e .before .rate-refused .ensures) ∙ e .if2 .left, sym (c .before .cutoff-refused .ensures) ∙ c .if3 .left)
+    rw (sym (d .before .order-refused .ensures) ∙ d .if1 .left, sym (e .before .not-positive .ensures) ∙ e .if2 .left, sym (c .before .cutoff-refused .ensures) ∙ c .if3 .left)
 
 pub validate-params-spec : {M : Type 1} → statement M
 validate-params-spec =
@@ -41,7 +41,7 @@ validate-params-spec =
     (tie.spec
     order-refused-requires
     returns
-    rate-refused-requires
+    not-positive-requires
     returns-2
     cutoff-refused-requires
     returns-3

@@ -1,0 +1,21 @@
+-- `designs::chebyshev::cheb1_section` meets its contract. Assumes nothing.
+use mathlib.Core.Path.{_∙_, ap}
+use Rattle.poles.specs.Chebyshev.{cheb1Biquad}
+use Rattle.designs.specs.Chebyshev.{PolePairRecord, cheb1Pair}
+use Rattle.designs.specs.Chebyshev.{cheb1Pair}
+use borrow.Author.Needs.{needs}
+use Rattle.designs.proofs.chebyshev.cheb1_section.Statement.{statement}
+use Rattle.designs.proofs.chebyshev.cheb1_section.Tie as tie
+
+pole-pair-requires : tie.Need-pole-pair-requires
+pole-pair-requires c κs = search needs
+
+cheb1-lp-biquad-requires : tie.Need-cheb1-lp-biquad-requires
+cheb1-lp-biquad-requires c κs = search needs
+
+returns : tie.Need-returns
+unfolding cheb1Pair
+returns c = c .cheb1-lp-biquad .ensures ∙ ap (λ (p : PolePairRecord). cheb1Biquad (p .sigma) (p .omega) (c .before .before .args .k)) (c .before .pole-pair .ensures)
+
+pub cheb1-section-spec : {M : Type 1} → statement M
+cheb1-section-spec = tie.close (tie.spec pole-pair-requires cheb1-lp-biquad-requires returns)

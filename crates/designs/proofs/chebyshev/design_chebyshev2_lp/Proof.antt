@@ -1,0 +1,52 @@
+-- `designs::chebyshev::design_chebyshev2_lp` meets its contract. Assumes nothing.
+use mathlib.Core.Path.{_∙_, sym, ap}
+use Rattle.designs.specs.Design.{accepted, refusedDesign}
+use Rattle.designs.specs.Chebyshev.{cheb2Prototype}
+use Rattle.designs.specs.Prototype.{prototypeCascade}
+use Rattle.designs.specs.LowPass.{chebyshev2Lp}
+use Rattle.designs.proofs.Laws.{good-chebyshev, is-refused, is-accepted}
+use borrow.Author.Needs.{needs}
+use Rattle.designs.proofs.chebyshev.design_chebyshev2_lp.Statement.{statement}
+use Rattle.designs.proofs.chebyshev.design_chebyshev2_lp.Tie as tie
+
+validate-chebyshev-requires : tie.Need-validate-chebyshev-requires
+validate-chebyshev-requires c κs = search needs
+
+refused-requires : tie.Need-refused-requires
+refused-requires c κs = search needs
+
+returns : tie.Need-returns
+unfolding chebyshev2Lp
+returns c = let v = c .before .before .validate-chebyshev in
+    c .refused .ensures ∙ ap refusedDesign (v .ensures) ∙ is-refused _ _ (λ e. c .before .if1 .taken (v .ensures ∙ e))
+
+warp-requires : tie.Need-warp-requires
+warp-requires c κs = search needs
+
+chebyshev2-prototype-requires : tie.Need-chebyshev2-prototype-requires
+chebyshev2-prototype-requires c κs = let s = c .before .before .before in
+    good-chebyshev (s .args .cutoff) (s .args .stopband-db) (s .args .sample-rate) (s .args .order) (sym (c .before .before .validate-chebyshev .ensures) ∙ c .before .if1 .left) .1
+
+design-from-prototype-requires : tie.Need-design-from-prototype-requires
+design-from-prototype-requires c κs = let s = c .before .before .before .before in
+    good-chebyshev (s .args .cutoff) (s .args .stopband-db) (s .args .sample-rate) (s .args .order) (sym (c .before .before .before .validate-chebyshev .ensures) ∙ c .before .before .if1 .left)
+
+returns-2 : tie.Need-returns-2
+unfolding chebyshev2Lp
+returns-2 c = let s = c .before .before .before .before .before in
+    let v = c .before .before .before .before .validate-chebyshev in
+    c .design-from-prototype .ensures
+    ∙ ap (λ p. accepted (prototypeCascade p (s .args .order))) (c .before .chebyshev2-prototype .ensures ∙ ap (cheb2Prototype (s .args .order) (s .args .stopband-db)) (c .before .before .warp .ensures))
+    ∙ is-accepted _ _ (sym (v .ensures) ∙ c .before .before .before .if1 .left)
+
+pub design-chebyshev2-lp-spec : {M : Type 1} → statement M
+design-chebyshev2-lp-spec =
+    tie.close
+    (tie.spec
+    validate-chebyshev-requires
+    refused-requires
+    returns
+    warp-requires
+    chebyshev2-prototype-requires
+    design-from-prototype-requires
+    returns-2)

@@ -1,0 +1,19 @@
+-- `designs::prototype::design_from_prototype` meets its contract. Assumes nothing.
+use Rattle.designs.specs.Prototype.{prototypeCascade}
+use borrow.Author.Needs.{needs}
+use Rattle.designs.proofs.prototype.design_from_prototype.Statement.{statement}
+use Rattle.designs.proofs.prototype.design_from_prototype.Tie as tie
+
+sections-from-pairs-requires : tie.Need-sections-from-pairs-requires
+sections-from-pairs-requires c κs = search needs
+
+first-from-pole-requires : tie.Need-first-from-pole-requires
+first-from-pole-requires c κs = search needs
+
+returns : tie.Need-returns
+unfolding prototypeCascade
+returns c = cc
+
+pub design-from-prototype-spec : {M : Type 1} → statement M
+design-from-prototype-spec =
+    tie.close (tie.spec sections-from-pairs-requires first-from-pole-requires returns)

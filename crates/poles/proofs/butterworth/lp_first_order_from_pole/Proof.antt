@@ -1,0 +1,15 @@
+-- `poles::butterworth::lp_first_order_from_pole` meets its contract. Assumes nothing.
+use Rattle.poles.specs.Butterworth.{lpFirst}
+use borrow.Author.Needs.{needs}
+use Rattle.poles.proofs.butterworth.lp_first_order_from_pole.Statement.{statement}
+use Rattle.poles.proofs.butterworth.lp_first_order_from_pole.Tie as tie
+
+new-requires : tie.Need-new-requires
+new-requires c κs = search needs
+
+returns : tie.Need-returns
+unfolding lpFirst
+returns c = c .new .ensures
+
+pub lp-first-order-from-pole-spec : {M : Type 1} → statement M
+lp-first-order-from-pole-spec = tie.close (tie.spec new-requires returns)

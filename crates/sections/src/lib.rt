@@ -1,0 +1,8 @@
+// 01 "Section": second-order sections and first-order parts, a sample at a time.
+mod first_order;
+mod section;
+
+pub use first_order::FirstOrder;
+pub use first_order::FirstProcessed;
+pub use section::Processed;
+pub use section::Section;
