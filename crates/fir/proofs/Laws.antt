@@ -1,0 +1,158 @@
+-- Loops over taps and samples, the check, and what the functions return. Assumes nothing.
+use mathlib.Core.Path.{_≡_, refl, ap, ap₂, sym, _∙_}
+use mathlib.Core.Bool.{Bool, true, false, not, _&&_, _||_, true≢false}
+use mathlib.Core.List.{List, [], _∷_, _++_, append-assoc}
+use Prim.Native.Nat.{ℕ, zero, suc, _+_, _-_, _<_, _≤_, min}
+use native.Mathlib.Numerals.{add-one}
+use native.Mathlib.Nat.{sub-zero, zero-sub, suc-sub-suc}
+use native.Mathlib.Omega.{arith}
+use lib.Dec.{leb}
+use lib.ListN.{length, take, drop, getD, set, length-take, length-set, drop-of-length-le, replicate}
+use lib.Seq.{drop-cons, take-suc, set-at, getD-at, length-take-le, getD-take, take-length}
+use lib.Ieee.{Float, nan, Format, add, mul}
+use lib.Ieee.Scale.{finite}
+use borrow.Author.Tests.{leb-true, le-leb, lt-leb}
+use Rattle.runs.specs.Refusals.{InvalidOrder, Accepted}
+use Rattle.runs.specs.Runs.{plusZero, marked, answer}
+use Rattle.fir.specs.Fir.{TapsRecord, ReadyMade, pushed, next, heldOf, notAllFinite, clouding, sum, value, mark, checkTaps, zeros, blankTaps, fir, holding, Made, tapsRefused, fromCoeffs}
+
+snoc-take : (l ys : List Float) (i : ℕ) → i < length l → take i l ++ getD l i nan ∷ ys ≡ take (suc i) l ++ ys
+snoc-take l ys i h = rw (take-suc l i nan, append-assoc)
+
+-- ---- the loop that pushes: i places are done, and carried is what goes next
+abbrev pub Pushing : List Float → Float → List Float → Float → ℕ → Type 0
+Pushing s₀ x s carried i = (s ≡ pushed i x s₀) × (carried ≡ getD (x ∷ s₀) i nan) × (length s ≡ length s₀)
+
+pub push-start : (s : List Float) (x : Float) → Pushing s x s x 0
+unfolding pushed
+push-start s x = (refl, refl, refl)
+
+push-more : (xs : List Float) (x : Float) (i : ℕ) → i < length xs → set (pushed i x xs) i (getD (x ∷ xs) i nan) ≡ pushed (suc i) x xs
+unfolding pushed
+push-more xs x i h =
+    let l : length (take i (x ∷ xs)) ≡ i = length-take-le i (x ∷ xs) (omega arith) in
+    rw (drop-cons xs i nan) (set-at (take i (x ∷ xs)) _ (drop (suc i) xs) _ i l ∙ snoc-take (x ∷ xs) (drop (suc i) xs) i (omega arith))
+
+push-next : (xs : List Float) (x : Float) (i : ℕ) → i < length xs → getD (pushed i x xs) i nan ≡ getD xs i nan
+unfolding pushed
+push-next xs x i h =
+    let l : length (take i (x ∷ xs)) ≡ i = length-take-le i (x ∷ xs) (omega arith) in
+    rw (drop-cons xs i nan) (getD-at (take i (x ∷ xs)) _ (drop (suc i) xs) nan i l)
+
+pub push-turn : (s₀ : List Float) (x : Float) (s : List Float) (carried : Float) (i : ℕ) → i < length s₀ → Pushing s₀ x s carried i
+    → Pushing s₀ x (set s i carried) (getD s i nan) (i + 1)
+push-turn s₀ x s carried i h p =
+    (rw (p .0, p .1, add-one) (push-more s₀ x i h), rw (p .0, add-one) (push-next s₀ x i h), length-set s i carried ∙ p .2)
+
+-- ---- the loop that sums: what is left to add to y
+abbrev pub Summing : Format → List Float → List Float → Float → ℕ → Type 0
+Summing f ts xs y i = sum f y (drop i ts) (drop i xs) ≡ sum f plusZero ts xs
+
+pub sum-turn : (f : Format) (ts s : List Float) (y : Float) (n i : ℕ) → i < n → n ≤ length ts → n ≤ length s → Summing f ts (take n s) y i
+    → Summing f ts (take n s) (add f y (mul f (getD ts i nan) (getD s i nan))) (i + 1)
+unfolding sum
+sum-turn f ts s y n i h ht hs p =
+    let k : i < length ts = omega arith in
+    let l : i < length (take n s) = simp length-take (omega arith) in
+    let e = drop-cons ts i nan k in
+    let d = drop-cons (take n s) i nan l in
+    rw (add-one, ← getD-take n s i nan h) (rw (e, d) at p)
+
+sum-none : (f : Format) (ts : List Float) (y : Float) → sum f y ts [] ≡ y
+unfolding sum
+sum-none f [] y = refl
+sum-none f (t ∷ ts) y = refl
+
+-- past the last of the first n places nothing is left
+none-left : (s : List Float) (n i : ℕ) → n ≤ i → drop i (take n s) ≡ []
+none-left s n i k = drop-of-length-le (take n s) {i = i} (simp length-take (omega arith))
+
+pub sum-done : (f : Format) (ts s : List Float) (y : Float) (n i : ℕ) → n ≤ i → Summing f ts (take n s) y i → y ≡ sum f plusZero ts (take n s)
+sum-done f ts s y n i k p = sym (sum-none f (drop i ts) y) ∙ (rw (none-left s n i k) at p)
+
+-- ---- the loop that looks for a sample that is not finite: none so far
+abbrev pub Looking : List Float → ℕ → Type 0
+Looking xs i = notAllFinite (drop i xs) ≡ notAllFinite xs
+
+look-more : (s : List Float) (n i : ℕ) → i < n → n ≤ length s → notAllFinite (drop i (take n s)) ≡ not (finite (getD s i nan)) || notAllFinite (drop (suc i) (take n s))
+unfolding notAllFinite
+look-more s n i h k =
+    let l : i < length (take n s) = simp length-take (omega arith) in
+    let d = drop-cons (take n s) i nan l in
+    rw (d, getD-take n s i nan h)
+
+pub look-turn : (s : List Float) (n i : ℕ) → i < n → n ≤ length s → finite (getD s i nan) ≡ true → Looking (take n s) i → Looking (take n s) (i + 1)
+look-turn s n i h k e p = rw (add-one) (sym (rw e at (look-more s n i h k)) ∙ p)
+
+pub look-found : (s : List Float) (n i : ℕ) → i < n → n ≤ length s → finite (getD s i nan) ≡ false → Looking (take n s) i → true ≡ notAllFinite (take n s)
+look-found s n i h k e p = sym (rw e at (look-more s n i h k)) ∙ p
+
+pub look-done : (s : List Float) (n i : ℕ) → n ≤ i → Looking (take n s) i → false ≡ notAllFinite (take n s)
+unfolding notAllFinite
+look-done s n i k p = rw (none-left s n i k) at p
+
+-- ---- the check: what a record that passes it has
+both : (a b : Bool) → (a && b) ≡ true → (a ≡ true) × (b ≡ true)
+both true b h = (refl, h)
+both false b h = absurd (true≢false (sym h))
+
+pub record Sizes (capacity size held : ℕ) : Type 0 where
+  pub some : 1 ≤ size
+  pub within : size ≤ capacity
+  pub few : held ≤ size
+
+pub sizes : (capacity : ℕ) (r : TapsRecord) → checkTaps capacity r ≡ true → Sizes capacity (r .size) (r .held)
+unfolding checkTaps
+sizes capacity r h =
+    let p = both (leb 1 (r .size) && leb (r .size) capacity) (leb (r .held) (r .size) && leb (r .window) ReadyMade) h in
+    let q = both (leb 1 (r .size)) (leb (r .size) capacity) (p .0) in
+    record {
+      some = leb-true 1 (r .size) (q .0);
+      within = leb-true (r .size) capacity (q .1);
+      few = leb-true (r .held) (r .size) (both (leb (r .held) (r .size)) (leb (r .window) ReadyMade) (p .1) .0);
+    }
+
+-- ---- one sample taken
+pub passed : (f : Format) (r : TapsRecord) (x : Float) {out : Float} {m : Bool} {s : List Float} {h : ℕ}
+    → s ≡ pushed (r .size) x (r .samples) → h ≡ min (r .held + 1) (r .size) → out ≡ sum f plusZero (r .taps) (take h s) → m ≡ clouding (r .taps) (take h s)
+    → (out ≡ value f r x) × (m ≡ mark r x) × (_≡_ {A = TapsRecord} (record { taps = r .taps; samples = s; size = r .size; held = h; window = r .window }) (next r x))
+unfolding next heldOf value mark
+passed f r x es eh eo em = (rw (eo, es, eh), rw (em, es, eh), rw (es, eh))
+
+-- the answer of a step
+pub answer-is : (f : Format) (capacity : ℕ) (r : TapsRecord) (x : Float) {y : Float} {m : Bool} (b : Bool) → y ≡ value f r x → m ≡ mark r x → m ≡ b
+    → marked b y ≡ answer (fir capacity f) r x
+answer-is f capacity r x b v k e = ap₂ marked (sym e ∙ k) v
+
+-- ---- ready-made taps
+drop-replicate : (n i : ℕ) (a : Float) → drop i (replicate n a) ≡ replicate (n - i) a
+drop-replicate n zero a = rw (sub-zero)
+drop-replicate zero (suc i) a = rw (zero-sub)
+drop-replicate (suc n) (suc i) a = rw (suc-sub-suc) (drop-replicate n i a)
+
+-- the loop that copies: the first i are in place
+abbrev pub Copying : List Float → List Float → List Float → ℕ → Type 0
+Copying ts l₀ l i = (l ≡ take i ts ++ drop i l₀) × (length l ≡ length l₀)
+
+pub copy-start : (ts l₀ l : List Float) → l ≡ l₀ → Copying ts l₀ l 0
+copy-start ts l₀ l e = (e, ap length e)
+
+pub copy-turn : (ts l₀ l : List Float) (i : ℕ) → i < length ts → i < length l₀ → Copying ts l₀ l i → Copying ts l₀ (set l i (getD ts i nan)) (i + 1)
+copy-turn ts l₀ l i h k p =
+    let t : length (take i ts) ≡ i = length-take-le i ts (omega arith) in
+    let e = drop-cons l₀ i nan k in
+    (rw (p .0, add-one, e) (set-at (take i ts) _ (drop (suc i) l₀) _ i t ∙ snoc-take ts (drop (suc i) l₀) i h), length-set l i (getD ts i nan) ∙ p .1)
+
+module _ (capacity : ℕ) (ts : List Float) where
+  pub made-none : {r : TapsRecord} → length ts < 1 → r ≡ blankTaps capacity → _≡_ {A = Made} (record { refusal = InvalidOrder; filter = r }) (fromCoeffs capacity ts)
+  unfolding fromCoeffs tapsRefused
+  made-none h e = rw (lt-leb 1 (length ts) h, e)
+
+  pub made-many : {r : TapsRecord} → 1 ≤ length ts → capacity < length ts → r ≡ blankTaps capacity → _≡_ {A = Made} (record { refusal = InvalidOrder; filter = r }) (fromCoeffs capacity ts)
+  unfolding fromCoeffs tapsRefused
+  made-many h k e = rw (le-leb 1 (length ts) h, lt-leb (length ts) capacity k, e)
+
+  pub made : {l s : List Float} (i : ℕ) → 1 ≤ length ts → length ts ≤ capacity → i ≡ length ts → s ≡ zeros capacity → Copying ts (zeros capacity) l i
+      → _≡_ {A = Made} (record { refusal = Accepted; filter = record { taps = l; samples = s; size = length ts; held = 0; window = ReadyMade } }) (fromCoeffs capacity ts)
+  unfolding fromCoeffs tapsRefused holding
+  made i h k ei es p = rw (le-leb 1 (length ts) h, le-leb (length ts) capacity k, p .0, es, ei, take-length, drop-replicate)

@@ -1,0 +1,25 @@
+-- `fir::TapRecord::check` meets its contract. Assumes nothing.
+use borrow.Author.Tests.{lt-leb, le-leb}
+use Rattle.fir.specs.Fir.{checkTaps}
+use Rattle.fir.proofs.TapRecord.check.Statement.{statement}
+use Rattle.fir.proofs.TapRecord.check.Tie as tie
+
+returns : tie.Need-returns
+unfolding checkTaps
+returns c = simp (lt-leb _ _ (c .if1 .taken))
+
+returns-2 : tie.Need-returns-2
+unfolding checkTaps
+returns-2 c = simp (le-leb _ _ (c .before .before .if1 .left), lt-leb _ _ (c .if2 .taken))
+
+returns-3 : tie.Need-returns-3
+unfolding checkTaps
+returns-3 c = simp (le-leb _ _ (c .before .before .before .before .if1 .left), le-leb _ _ (c .before .before .if2 .left), lt-leb _ _ (c .if3 .taken))
+
+returns-4 : tie.Need-returns-4
+unfolding checkTaps
+returns-4 c = let e = c .before in
+    simp (le-leb _ _ (e .before .before .before .before .if1 .left), le-leb _ _ (e .before .before .if2 .left), le-leb _ _ (e .if3 .left))
+
+pub check-spec : {M : Type 1} → statement M
+check-spec = tie.close (tie.spec returns returns-2 returns-3 returns-4)

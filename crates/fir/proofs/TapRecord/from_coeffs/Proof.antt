@@ -1,0 +1,83 @@
+-- `fir::TapRecord::from_coeffs` meets its contract. Assumes nothing.
+use Prim.Native.Nat.{_≤_, _-_}
+use native.Mathlib.Omega.{arith}
+use Rattle.fir.specs.Fir.{zeros}
+use Rattle.fir.specs.View.{capacity}
+use borrow.Author.Needs.{needs}
+use Rattle.fir.proofs.Laws.{Copying, copy-start, copy-turn, made-none, made-many, made}
+use Rattle.fir.proofs.TapRecord.from_coeffs.Statement.{statement}
+use Rattle.fir.proofs.TapRecord.from_coeffs.Tie as tie
+
+abbrev Inv-loop : tie.InvT-loop
+Inv-loop coeffs length samples taps₀ i₀ taps i = (i ≤ length) × Copying coeffs (zeros capacity) taps i
+
+abbrev μ-loop : tie.MeasureT-loop
+μ-loop coeffs length samples taps₀ i₀ taps i = length - i
+
+blank-requires : tie.Need-blank-requires Inv-loop μ-loop
+blank-requires c κs = tt
+
+returns : tie.Need-returns Inv-loop μ-loop
+returns c = made-none capacity (c .before .before .before .args .coeffs .now) (c .before .if1 .taken) (c .blank .ensures)
+
+blank-requires-2 : tie.Need-blank-requires-2 Inv-loop μ-loop
+blank-requires-2 c κs = tt
+
+returns-2 : tie.Need-returns-2 Inv-loop μ-loop
+returns-2 c = made-many capacity (c .before .before .before .before .args .coeffs .now) (c .before .before .if1 .left) (c .before .if2 .taken) (c .blank2 .ensures)
+
+no-numbers-requires : tie.Need-no-numbers-requires Inv-loop μ-loop
+no-numbers-requires c κs = tt
+
+no-numbers-requires-2 : tie.Need-no-numbers-requires-2 Inv-loop μ-loop
+no-numbers-requires-2 c κs = tt
+
+loop-holds : tie.Need-loop-holds Inv-loop μ-loop
+loop-holds c = (search needs, copy-start (c .before .before .before .before .before .args .coeffs .now) (zeros capacity) _ (c .no-numbers2 .ensures))
+
+mul-taps : tie.Need-mul-taps Inv-loop μ-loop
+mul-taps c = omega arith
+
+shared-slice-read-taps : tie.Need-shared-slice-read-taps Inv-loop μ-loop
+shared-slice-read-taps c = omega arith
+
+mul-taps-2 : tie.Need-mul-taps-2 Inv-loop μ-loop
+mul-taps-2 c = omega arith
+
+array-write-taps : tie.Need-array-write-taps Inv-loop μ-loop
+array-write-taps c = omega arith
+
+add-i : tie.Need-add-i Inv-loop μ-loop
+add-i c = omega arith
+
+loop-less : tie.Need-loop-less Inv-loop μ-loop
+loop-less c = omega arith
+
+loop-again : tie.Need-loop-again Inv-loop μ-loop
+loop-again c = let l = c .before .before in
+    (omega arith, copy-turn (l .before .before .before .before .before .before .args .coeffs .now) (zeros capacity) (l .loop .taps) (l .loop .i) (omega arith) (omega arith) (l .loop .inv .1))
+
+returns-3 : tie.Need-returns-3 Inv-loop μ-loop
+returns-3 c = made capacity (c .before .before .before .before .before .before .before .args .coeffs .now) (c .before .loop .i) (omega arith) (omega arith) (omega arith) (c .before .before .before .no-numbers .ensures) (c .before .loop .inv .1)
+
+pub from-coeffs-spec : {M : Type 1} → statement M
+from-coeffs-spec =
+    tie.close
+    (tie.spec
+    Inv-loop
+    μ-loop
+    blank-requires
+    returns
+    blank-requires-2
+    returns-2
+    no-numbers-requires
+    no-numbers-requires-2
+    loop-holds
+    mul-taps
+    shared-slice-read-taps
+    mul-taps-2
+    array-write-taps
+    add-i
+    loop-less
+    loop-again
+    returns-3)

@@ -1,0 +1,34 @@
+-- `fir::TapRecord::update` meets its contract. Assumes nothing.
+use mathlib.Core.Path.{sym, _∙_}
+use mathlib.Core.Bool.{true, false}
+use borrow.Author.Tests.{not-true, not-false}
+use lib.Ieee.{binary64}
+use Rattle.runs.proofs.Laws.{step-refused, step-answered}
+use Rattle.fir.specs.Fir.{fir}
+use Rattle.fir.specs.View.{capacity, tapsView}
+use Rattle.fir.proofs.Laws.{answer-is}
+use borrow.Author.Needs.{needs}
+use Rattle.fir.proofs.TapRecord.update.Statement.{statement}
+use Rattle.fir.proofs.TapRecord.update.Tie as tie
+
+check-requires : tie.Need-check-requires
+check-requires c κs = search needs
+
+returns : tie.Need-returns
+returns c = step-refused (fir capacity binary64) _ _ (sym (c .before .check .ensures) ∙ not-true _ (c .if1 .taken))
+
+pass-requires : tie.Need-pass-requires
+pass-requires c κs = sym (c .before .check .ensures) ∙ not-false _ (c .if1 .left)
+
+returns-2 : tie.Need-returns-2
+returns-2 c = let b = c .before .before .before in
+    let p = c .before .before .pass .ensures in
+    step-answered (fir capacity binary64) _ _ (sym (b .before .check .ensures) ∙ not-false _ (b .if1 .left)) (answer-is binary64 capacity _ _ true (p .0) (p .1) (c .if2 .taken)) (p .2)
+
+returns-3 : tie.Need-returns-3
+returns-3 c = let b = c .before .before .before in
+    let p = c .before .before .pass .ensures in
+    step-answered (fir capacity binary64) _ _ (sym (b .before .check .ensures) ∙ not-false _ (b .if1 .left)) (answer-is binary64 capacity _ _ false (p .0) (p .1) (c .if2 .left)) (p .2)
+
+pub update-spec : {M : Type 1} → statement M
+update-spec = tie.close (tie.spec check-requires returns pass-requires returns-2 returns-3)

@@ -1,0 +1,3 @@
+-- 01 "Tap record". Fir is over any float format and any capacity; View reads the code's types at f64 as its records.
+pub mod Fir
+pub mod View

@@ -1,0 +1,25 @@
+-- The code's types at f64, read field by field as the records of these definitions. Definitions only.
+use Prim.Native.Nat.{ℕ}
+use Rattle.runs.specs.Runs.{Step, Reset}
+use Rattle.runs.specs.View.{answerView}
+use Rattle.fir.specs.Fir.{TapsRecord, Made as MadeRecord}
+use Rattle.fir.specs.declared.TapRecord.{TapRecord}
+use Rattle.fir.specs.declared.Updated.{Updated}
+use Rattle.fir.specs.declared.WasReset.{WasReset}
+use Rattle.fir.specs.declared.Made.{Made}
+
+-- the code's capacity
+abbrev pub capacity : ℕ
+capacity = 64
+
+abbrev pub tapsView : TapRecord → TapsRecord
+tapsView r = record { taps = r .taps; samples = r .samples; size = r .length; held = r .held; window = r .window }
+
+abbrev pub updatedView : Updated → Step TapsRecord
+updatedView r = record { answer = answerView (r .answer); state = tapsView (r .filter) }
+
+abbrev pub resetView : WasReset → Reset TapsRecord
+resetView r = record { refusal = r .refusal; state = tapsView (r .filter) }
+
+abbrev pub madeView : Made → MadeRecord
+madeView m = record { refusal = m .refusal; filter = tapsView (m .filter) }
