@@ -1,13 +1,16 @@
 -- 01 "Calculations on the release sheet", over the definitions: one table, of what each row computes and what the sheet states, as numbers: a float by its bit
--- pattern, a refusal by its number, 0 for none. Rows 7 and 12 to 14 are not in it yet. Definitions only.
+-- pattern, a refusal by its number, 0 for none. Rows 12 to 14 are not in it yet. Definitions only.
 use mathlib.Core.Path.{_≡_}
-use mathlib.Core.List.{List, [], _∷_, map}
+use mathlib.Core.List.{List, [], _∷_, _++_, map}
 use Prim.Native.Nat.{ℕ}
-use lib.Ieee.{Float, binary64, neg, toBits}
-use Rattle.scalar.specs.Operators.{nat}
+use lib.Ieee.{Float, nan, binary64, neg, toBits}
+use Rattle.scalar.specs.Operators.{_⊘_, nat}
+use Rattle.runs.specs.Runs.{Answer, clear, clouded, refused, step}
 use Rattle.sections.specs.Section.{Biquad, sectionOut, sectionNext}
 use Rattle.sections.specs.FirstOrder.{FirstPart, firstOut, firstNext}
 use Rattle.poles.specs.Butterworth.{lpBiquad, hpBiquad, lpFirst, hpFirst}
+use Rattle.fir.specs.Fir.{TapsRecord, fir, fromCoeffs}
+use Rattle.fir.specs.View.{capacity}
 use Rattle.designs.specs.LowPass.{validateParams}
 use Rattle.designs.specs.BandPass.{validateBand}
 
@@ -29,6 +32,16 @@ abbrev pub answers : Biquad → List Float → List Float
 answers s [] = []
 answers s (x ∷ xs) = sectionOut binary64 s x ∷ answers (sectionNext binary64 s x) xs
 
+-- an answer as two numbers: 0 Clear, 1 Clouded, each with the number's pattern, or 2 Refused with its number
+abbrev pub answerNumbers : Answer → List ℕ
+answerNumbers (clear y) = 0 ∷ toBits binary64 y ∷ []
+answerNumbers (clouded y) = 1 ∷ toBits binary64 y ∷ []
+answerNumbers (refused n) = 2 ∷ n ∷ []
+
+abbrev pub tapAnswers : TapsRecord → List Float → List ℕ
+tapAnswers r [] = []
+tapAnswers r (x ∷ xs) = answerNumbers (step (fir capacity binary64) r x .answer) ++ tapAnswers (step (fir capacity binary64) r x .state) xs
+
 -- the sheet's numbers by their patterns
 abbrev pub zero½ : ℕ
 zero½ = 0x3FE0000000000000
@@ -38,6 +51,15 @@ zero¼ = 0x3FD0000000000000
 
 abbrev pub minus½ : ℕ
 minus½ = 0xBFE0000000000000
+
+abbrev pub two : ℕ
+two = 0x4000000000000000
+
+abbrev pub five : ℕ
+five = 0x4014000000000000
+
+abbrev pub notANumber : ℕ
+notANumber = 0x7FF8000000000000
 
 pub record Row : Type 0 where
   pub computed : List ℕ
@@ -58,6 +80,9 @@ sheet cutoff =
     -- 5. Row 1 on 1, 0, 0: 0.5, 0.5, 0. 6. Row 3 on 1, 0, 0, 0: 0.25, 0.5, 0.25, 0
     ∷ row (patterns (firstAnswers (lpFirst (nat 1)) (nat 1 ∷ nat 0 ∷ nat 0 ∷ []))) (zero½ ∷ zero½ ∷ 0 ∷ [])
     ∷ row (patterns (answers (lpBiquad (neg (nat 1)) (nat 0) (nat 1)) (nat 1 ∷ nat 0 ∷ nat 0 ∷ nat 0 ∷ []))) (zero¼ ∷ zero½ ∷ zero¼ ∷ 0 ∷ [])
+    -- 7. Taps 0.5, 0.25 on 4, 8, NaN, 4, 8: 2, 5, then two Clouded NaN, then 5 Clear
+    ∷ row (tapAnswers (fromCoeffs capacity ((nat 1 ⊘ nat 2) ∷ (nat 1 ⊘ nat 4) ∷ []) .filter) (nat 4 ∷ nat 8 ∷ nan ∷ nat 4 ∷ nat 8 ∷ []))
+    (0 ∷ two ∷ 0 ∷ five ∷ 1 ∷ notANumber ∷ 1 ∷ notANumber ∷ 0 ∷ five ∷ [])
     -- 8. Low pass order 2, rate 1000: cutoff 500 draws 2; 499 passes the checks
     ∷ row (validateParams (nat 500) (nat 1000) 2 ∷ validateParams (nat 499) (nat 1000) 2 ∷ []) (2 ∷ 0 ∷ [])
     -- 9. Low pass order 9, rate 0, cutoff −1: 1. 10. Low pass order 8, rate 0, any cutoff: 3. 11. Band pass order 2, 100 to 200, rate 0: 2

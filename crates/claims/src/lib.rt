@@ -55,12 +55,12 @@ pub fn constants_have_their_bits() -> Constants
     }
 }
 
-// What an accepted design returns is fresh.
+// What an accepted design or set of ready-made taps returns is fresh.
 pub fn accepted_designs_are_fresh()
     ensures { λ _. ⌜ AcceptedIsFresh ⌝ }
 {}
 
-// The calculations on the release sheet, rows 1 to 6 and 8 to 11.
+// The calculations on the release sheet, rows 1 to 11.
 pub fn release_sheet()
     ensures { λ _. ⌜ ReleaseSheet ⌝ }
 {}

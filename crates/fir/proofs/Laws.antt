@@ -92,7 +92,7 @@ unfolding notAllFinite
 look-done s n i k p = rw (none-left s n i k) at p
 
 -- ---- the check: what a record that passes it has
-both : (a b : Bool) → (a && b) ≡ true → (a ≡ true) × (b ≡ true)
+pub both : (a b : Bool) → (a && b) ≡ true → (a ≡ true) × (b ≡ true)
 both true b h = (refl, h)
 both false b h = absurd (true≢false (sym h))
 
