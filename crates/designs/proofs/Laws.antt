@@ -1,31 +1,21 @@
 -- What the checks leave. Assumes nothing.
 use mathlib.Core.Path.{_≡_, refl}
-use mathlib.Core.Bool.{Bool, true, false, cond, _||_, true≢false}
-use Prim.Native.Nat.{ℕ, zero, suc, _^_, _<_, _≤_}
-use native.Mathlib.Nat.{zero-lt-suc}
+use mathlib.Core.Bool.{Bool, true, false, cond}
+use Prim.Native.Nat.{ℕ, _^_, _<_, _≤_}
 use native.Mathlib.Omega.{arith}
-use lib.Dec.{T, ltb, eqb, le→leb}
+use lib.Dec.{T, le→leb}
 use lib.IntN.{pos}
 use lib.Ieee.{Float, binary64, inFloat}
-use borrow.Author.Tests.{ltb-false, eq-eqb, ne-eqb}
+use borrow.Author.Tests.{eq-eqb, ne-eqb}
 use Rattle.cascade.specs.Cascade.{CascadeRecord}
 use Rattle.runs.specs.Refusals.{InvalidOrder}
-use Rattle.designs.specs.Checks.{orderRefused}
+use Rattle.runs.specs.Refusals.{orderRefused}
+use Rattle.runs.proofs.Laws.{good-order}
 use Rattle.designs.specs.Design.{refusedDesign, accepted, unlessRefused}
 use Rattle.designs.specs.LowPass.{validateParams, validateChebyshev}
 use Rattle.designs.specs.BandPass.{validateBand}
 
-either-no : (a b : Bool) → (a || b) ≡ false → b ≡ false
-either-no true b e = absurd (true≢false e)
-either-no false b e = e
-
--- an order that is not refused
-pub good-order : (n most : ℕ) → orderRefused n most ≡ false → (0 < n) × (n ≤ most)
-unfolding orderRefused
-good-order zero most e = absurd (true≢false e)
-good-order (suc n) most e = (zero-lt-suc n, ltb-false most (suc n) (either-no (eqb (suc n) 0) (ltb most (suc n)) e))
-
--- parameters that pass have such an order: it is tested first, whatever is tested after it
+-- parameters that pass have a good order: it is tested first, whatever is tested after it
 first-passed : (b : Bool) (rest : ℕ) → cond b InvalidOrder rest ≡ 0 → b ≡ false
 first-passed true rest e = absurd (no e)
   where

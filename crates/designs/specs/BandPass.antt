@@ -11,7 +11,8 @@ use Rattle.sections.specs.Section.{Biquad}
 use Rattle.sections.specs.FirstOrder.{blankFirst}
 use Rattle.cascade.specs.Cascade.{CascadeRecord}
 use Rattle.poles.specs.BandPass.{BiquadPair, bpPair, bpReal}
-use Rattle.designs.specs.Checks.{orderRefused, rateRefused, bandRefused}
+use Rattle.runs.specs.Refusals.{orderRefused}
+use Rattle.designs.specs.Checks.{rateRefused, bandRefused}
 use Rattle.designs.specs.Design.{DesignRecord, unlessRefused, placed}
 use Rattle.designs.specs.Butterworth.{warped, angleOf}
 

@@ -1,14 +1,8 @@
--- 01's first table: when each refusal number is given. Comparisons with a NaN are false, so its tests stand by themselves. Definitions only.
-use Prim.Native.Nat.{ℕ}
+-- 01's first table: when each refusal number but 1 is given, whose test stands in `runs`. Comparisons with a NaN are false, so its tests stand by themselves. Definitions only.
 use mathlib.Core.Bool.{Bool, _||_}
-use lib.Dec.{eqb, ltb}
 use lib.Ieee.{Float, isNan, le}
 use Rattle.scalar.specs.Operators.{_⊗_}
 use Rattle.scalar.specs.Constants.{half, plusZero}
-
--- 1: order 0 or above the most
-unfoldable pub orderRefused : ℕ → ℕ → Bool
-orderRefused n most = eqb n 0 || ltb most n
 
 -- NaN or at most 0
 unfoldable pub notPositive : Float → Bool

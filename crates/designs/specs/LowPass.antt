@@ -3,7 +3,8 @@ use Prim.Native.Nat.{ℕ}
 use mathlib.Core.Bool.{cond}
 use lib.Ieee.{Float}
 use Rattle.runs.specs.Refusals.{Accepted, InvalidOrder, InvalidFrequency, InvalidSampleRate, InvalidRipple}
-use Rattle.designs.specs.Checks.{orderRefused, rateRefused, cutoffRefused, rippleRefused}
+use Rattle.runs.specs.Refusals.{orderRefused}
+use Rattle.designs.specs.Checks.{rateRefused, cutoffRefused, rippleRefused}
 use Rattle.designs.specs.Design.{DesignRecord, unlessRefused}
 use Rattle.designs.specs.Butterworth.{warped}
 use Rattle.designs.specs.Chebyshev.{cheb1Prototype, cheb2Prototype}

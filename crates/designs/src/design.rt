@@ -1,6 +1,7 @@
 // What the cascade designs have in common: what they return, and the checks of 01's table.
 ghost use mathlib.Core.Path.{_≡_};
-ghost use Rattle.designs.specs.Checks.{orderRefused, notPositive, cutoffRefused, bandRefused};
+ghost use Rattle.runs.specs.Refusals.{orderRefused};
+ghost use Rattle.designs.specs.Checks.{notPositive, cutoffRefused, bandRefused};
 ghost use Rattle.designs.specs.Design.{refusedDesign};
 ghost use Rattle.designs.specs.View.{designView};
 use cascade::Cascade;

@@ -11,10 +11,10 @@ use lib.ListN.{length, take, drop, getD, set, length-take, length-set, drop-of-l
 use lib.Seq.{drop-cons, take-suc, set-at, getD-at, length-take-le, getD-take, take-length}
 use lib.Ieee.{Float, nan, Format, add, mul}
 use lib.Ieee.Scale.{finite}
-use borrow.Author.Tests.{leb-true, le-leb, lt-leb}
-use Rattle.runs.specs.Refusals.{InvalidOrder, Accepted}
+use borrow.Author.Tests.{leb-true, lt-ltb, le-ltb, eq-eqb, ne-eqb}
+use Rattle.runs.specs.Refusals.{InvalidOrder, Accepted, orderRefused}
 use Rattle.runs.specs.Runs.{plusZero, marked, answer}
-use Rattle.fir.specs.Fir.{TapsRecord, ReadyMade, pushed, next, heldOf, notAllFinite, clouding, sum, value, mark, checkTaps, zeros, blankTaps, fir, holding, Made, tapsRefused, fromCoeffs}
+use Rattle.fir.specs.Fir.{TapsRecord, ReadyMade, pushed, next, heldOf, notAllFinite, clouding, sum, value, mark, checkTaps, zeros, blankTaps, fir, holding, Made, fromCoeffs}
 
 snoc-take : (l ys : List Float) (i : ℕ) → i < length l → take i l ++ getD l i nan ∷ ys ≡ take (suc i) l ++ ys
 snoc-take l ys i h = rw (take-suc l i nan, append-assoc)
@@ -92,7 +92,7 @@ unfolding notAllFinite
 look-done s n i k p = rw (none-left s n i k) at p
 
 -- ---- the check: what a record that passes it has
-pub both : (a b : Bool) → (a && b) ≡ true → (a ≡ true) × (b ≡ true)
+both : (a b : Bool) → (a && b) ≡ true → (a ≡ true) × (b ≡ true)
 both true b h = (refl, h)
 both false b h = absurd (true≢false (sym h))
 
@@ -145,14 +145,15 @@ copy-turn ts l₀ l i h k p =
 
 module _ (capacity : ℕ) (ts : List Float) where
   pub made-none : {r : TapsRecord} → length ts < 1 → r ≡ blankTaps capacity → _≡_ {A = Made} (record { refusal = InvalidOrder; filter = r }) (fromCoeffs capacity ts)
-  unfolding fromCoeffs tapsRefused
-  made-none h e = rw (lt-leb 1 (length ts) h, e)
+  unfolding fromCoeffs orderRefused
+  made-none h e = let z : length ts ≡ 0 = omega arith in
+      rw (eq-eqb (length ts) 0 z, e)
 
   pub made-many : {r : TapsRecord} → 1 ≤ length ts → capacity < length ts → r ≡ blankTaps capacity → _≡_ {A = Made} (record { refusal = InvalidOrder; filter = r }) (fromCoeffs capacity ts)
-  unfolding fromCoeffs tapsRefused
-  made-many h k e = rw (le-leb 1 (length ts) h, lt-leb (length ts) capacity k, e)
+  unfolding fromCoeffs orderRefused
+  made-many h k e = rw (ne-eqb (length ts) 0 (λ z. omega arith), lt-ltb capacity (length ts) k, e)
 
   pub made : {l s : List Float} (i : ℕ) → 1 ≤ length ts → length ts ≤ capacity → i ≡ length ts → s ≡ zeros capacity → Copying ts (zeros capacity) l i
       → _≡_ {A = Made} (record { refusal = Accepted; filter = record { taps = l; samples = s; size = length ts; held = 0; window = ReadyMade } }) (fromCoeffs capacity ts)
-  unfolding fromCoeffs tapsRefused holding
-  made i h k ei es p = rw (le-leb 1 (length ts) h, le-leb (length ts) capacity k, p .0, es, ei, take-length, drop-replicate)
+  unfolding fromCoeffs orderRefused holding
+  made i h k ei es p = rw (ne-eqb (length ts) 0 (λ z. omega arith), le-ltb capacity (length ts) k, p .0, es, ei, take-length, drop-replicate)

@@ -8,7 +8,7 @@ use lib.Dec.{leb}
 use lib.ListN.{length, take, drop, replicate}
 use lib.Ieee.{Float, Format, add, mul}
 use lib.Ieee.Scale.{finite}
-use Rattle.runs.specs.Refusals.{Accepted, InvalidOrder, BadTaps}
+use Rattle.runs.specs.Refusals.{Accepted, InvalidOrder, BadTaps, orderRefused}
 use Rattle.runs.specs.Runs.{plusZero, Filter}
 
 -- taps, samples, a length, a held count and a window code
@@ -105,12 +105,9 @@ module _ (capacity : ℕ) where
   unfoldable pub holding : List Float → ℕ → TapsRecord
   holding ts window = record { taps = ts ++ replicate (capacity - length ts) plusZero; samples = zeros; size = length ts; held = 0; window = window }
 
-  -- 1 is given where there is no tap, or more than the capacity
-  unfoldable pub tapsRefused : ℕ → Bool
-  tapsRefused n = not (leb 1 n && leb n capacity)
-
+  -- ready-made taps
   unfoldable pub fromCoeffs : List Float → Made
-  fromCoeffs ts = cond (tapsRefused (length ts)) (record { refusal = InvalidOrder; filter = blankTaps }) (record { refusal = Accepted; filter = holding ts ReadyMade })
+  fromCoeffs ts = cond (orderRefused (length ts) capacity) (record { refusal = InvalidOrder; filter = blankTaps }) (record { refusal = Accepted; filter = holding ts ReadyMade })
 
   -- 01 "Forgetting rule": fresh means as an accepted design, set of ready-made taps or reset returned it
   pub record FreshTaps (r : TapsRecord) : Type 0 where

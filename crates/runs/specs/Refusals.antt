@@ -1,5 +1,7 @@
--- The refusal numbers of 01's two tables, under their names there. Definitions only.
+-- The refusal numbers of 01's two tables, under their names there, and the test of number 1, which designs and ready-made taps share. Definitions only.
 use Prim.Native.Nat.{ℕ}
+use mathlib.Core.Bool.{Bool, _||_}
+use lib.Dec.{eqb, ltb}
 
 -- no refusal
 abbrev pub Accepted : ℕ
@@ -7,6 +9,10 @@ Accepted = 0
 
 abbrev pub InvalidOrder : ℕ
 InvalidOrder = 1
+
+-- 1: an order, or a number of taps, 0 or above the most
+unfoldable pub orderRefused : ℕ → ℕ → Bool
+orderRefused n most = eqb n 0 || ltb most n
 
 abbrev pub InvalidFrequency : ℕ
 InvalidFrequency = 2

@@ -1,9 +1,10 @@
 -- `claims::release_sheet` meets its contract: antt computes the whole table. Assumes nothing.
 use mathlib.Core.Path.{refl}
 use lib.Ieee.{add, sub, mul, div, neg, lt, le, isNan, ofInt, ofBits, toBits}
-use Rattle.designs.specs.Checks.{orderRefused, notPositive, cutoffRefused, bandRefused}
+use Rattle.runs.specs.Refusals.{orderRefused}
+use Rattle.designs.specs.Checks.{notPositive, cutoffRefused, bandRefused}
 use Rattle.runs.specs.Runs.{step}
-use Rattle.fir.specs.Fir.{pushed, next, heldOf, notAllFinite, clouding, sum, value, mark, checkTaps, holding, tapsRefused, fromCoeffs}
+use Rattle.fir.specs.Fir.{pushed, next, heldOf, notAllFinite, clouding, sum, value, mark, checkTaps, holding, fromCoeffs}
 use Rattle.poles.specs.Butterworth.{denominatorOf, lpBiquad, hpBiquad, lpFirst, hpFirst}
 use Rattle.designs.specs.LowPass.{validateParams}
 use Rattle.designs.specs.BandPass.{validateBand}
@@ -11,7 +12,7 @@ use Rattle.claims.proofs.release_sheet.Statement.{statement}
 use Rattle.claims.proofs.release_sheet.Tie as tie
 
 returns : tie.Need-returns
-unfolding step pushed next heldOf notAllFinite clouding sum value mark checkTaps holding tapsRefused fromCoeffs denominatorOf lpBiquad hpBiquad lpFirst hpFirst validateParams validateBand orderRefused notPositive cutoffRefused bandRefused add sub mul div neg lt le isNan ofInt ofBits toBits
+unfolding step pushed next heldOf notAllFinite clouding sum value mark checkTaps holding fromCoeffs denominatorOf lpBiquad hpBiquad lpFirst hpFirst validateParams validateBand orderRefused notPositive cutoffRefused bandRefused add sub mul div neg lt le isNan ofInt ofBits toBits
 returns c = record { holds = λ cutoff. refl }
 
 pub release-sheet-spec : {M : Type 1} → statement M

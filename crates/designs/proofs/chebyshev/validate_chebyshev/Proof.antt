@@ -5,7 +5,8 @@ use Prim.Native.Nat.{ℕ, suc}
 use native.Mathlib.Omega.{arith}
 use lib.Ieee.{Float}
 use Rattle.runs.specs.Refusals.{Accepted, InvalidOrder, InvalidFrequency, InvalidSampleRate}
-use Rattle.designs.specs.Checks.{orderRefused, rateRefused, cutoffRefused}
+use Rattle.runs.specs.Refusals.{orderRefused}
+use Rattle.designs.specs.Checks.{rateRefused, cutoffRefused}
 use Rattle.designs.specs.LowPass.{checksThen, validateParams, validateChebyshev}
 use borrow.Author.Needs.{needs}
 use Rattle.designs.proofs.chebyshev.validate_chebyshev.Statement.{statement}

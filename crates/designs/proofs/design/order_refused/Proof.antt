@@ -1,6 +1,6 @@
 -- `designs::design::order_refused` meets its contract. Assumes nothing.
 use borrow.Author.Tests.{eq-eqb, ne-eqb}
-use Rattle.designs.specs.Checks.{orderRefused}
+use Rattle.runs.specs.Refusals.{orderRefused}
 use Rattle.designs.proofs.design.order_refused.Statement.{statement}
 use Rattle.designs.proofs.design.order_refused.Tie as tie
 

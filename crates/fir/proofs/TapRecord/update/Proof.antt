@@ -5,7 +5,7 @@ use borrow.Author.Tests.{not-true, not-false}
 use lib.Ieee.{binary64}
 use Rattle.runs.proofs.Laws.{step-refused, step-answered}
 use Rattle.fir.specs.Fir.{fir}
-use Rattle.fir.specs.View.{capacity, tapsView}
+use Rattle.fir.specs.View.{capacity}
 use Rattle.fir.proofs.Laws.{answer-is}
 use borrow.Author.Needs.{needs}
 use Rattle.fir.proofs.TapRecord.update.Statement.{statement}
