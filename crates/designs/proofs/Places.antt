@@ -32,7 +32,7 @@ unfolding placed
 no-places = refl
 
 -- ---- one section a turn
-pub upTo-length : (g : ℕ → Biquad) (n : ℕ) → length (upTo g n) ≡ n
+pub upTo-length : {A : Type 0} (g : ℕ → A) (n : ℕ) → length (upTo g n) ≡ n
 unfolding upTo
 upTo-length g zero = refl
 upTo-length g (suc n) = length-append (upTo g n) (g n ∷ []) ∙ ap (λ (k : ℕ). k + 1) (upTo-length g n) ∙ add-one n

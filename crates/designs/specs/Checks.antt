@@ -15,9 +15,9 @@ rateRefused r = notPositive r
 abbrev pub rippleRefused : Float → Bool
 rippleRefused db = notPositive db
 
--- 2: cutoff NaN, at most 0, or at least rate × 0.5
+-- 2: cutoff NaN, at most 0, or at least the limit: rate × 0.5, and 0.5 for the FIR
 unfoldable pub cutoffRefused : Float → Float → Bool
-cutoffRefused f r = isNan f || (le f plusZero || le (r ⊗ half) f)
+cutoffRefused f limit = isNan f || (le f plusZero || le limit f)
 
 -- 2, band pass: an edge NaN, low at most 0, high at most low, high at least rate × 0.5
 unfoldable pub bandRefused : Float → Float → Float → Bool

@@ -29,6 +29,6 @@ placed (suc p) [] = blankBiquad ∷ placed p []
 placed (suc p) (s ∷ ss) = s ∷ placed p ss
 
 -- g 0, g 1, to g (n - 1)
-unfoldable pub upTo : (ℕ → Biquad) → ℕ → List Biquad
+unfoldable pub upTo : {A : Type 0} → (ℕ → A) → ℕ → List A
 upTo g zero = []
 upTo g (suc n) = upTo g n ++ g n ∷ []

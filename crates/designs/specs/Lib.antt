@@ -7,4 +7,5 @@ pub mod Chebyshev
 pub mod Prototype
 pub mod LowPass
 pub mod BandPass
+pub mod Fir
 pub mod View

@@ -2,7 +2,11 @@
 use Prim.Native.Nat.{ℕ}
 use mathlib.Core.Bool.{cond}
 use lib.Ieee.{Float}
+use Rattle.scalar.specs.Operators.{_⊗_}
+use Rattle.scalar.specs.Constants.{half}
 use Rattle.runs.specs.Refusals.{Accepted, InvalidOrder, InvalidFrequency, InvalidSampleRate, InvalidRipple}
+use Rattle.scalar.specs.Operators.{_⊗_}
+use Rattle.scalar.specs.Constants.{half}
 use Rattle.runs.specs.Refusals.{orderRefused}
 use Rattle.designs.specs.Checks.{rateRefused, cutoffRefused, rippleRefused}
 use Rattle.designs.specs.Design.{DesignRecord, unlessRefused}
@@ -16,7 +20,7 @@ abbrev pub checksThen : Float → Float → ℕ → ℕ → ℕ
 checksThen cutoff rate n next =
     cond (orderRefused n 8) InvalidOrder
     (cond (rateRefused rate) InvalidSampleRate
-    (cond (cutoffRefused cutoff rate) InvalidFrequency next))
+    (cond (cutoffRefused cutoff (rate ⊗ half)) InvalidFrequency next))
 
 unfoldable pub validateParams : Float → Float → ℕ → ℕ
 validateParams cutoff rate n = checksThen cutoff rate n Accepted

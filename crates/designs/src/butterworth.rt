@@ -77,7 +77,7 @@ pub fn validate_params(cutoff: f64, sample_rate: f64, order: usize) -> u8
     if not_positive(sample_rate) {
         return runs::INVALID_SAMPLE_RATE;
     }
-    if cutoff_refused(cutoff, sample_rate) {
+    if cutoff_refused(cutoff, sample_rate * 0.5) {
         return runs::INVALID_FREQUENCY;
     }
     0

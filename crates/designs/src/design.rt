@@ -41,9 +41,9 @@ pub(crate) fn not_positive(x: f64) -> bool
     x <= 0.0
 }
 
-// 2: cutoff NaN, at most 0, or at least rate × 0.5.
-pub(crate) fn cutoff_refused(cutoff: f64, rate: f64) -> bool
-    ensures { λ r. ⌜ r ≡ cutoffRefused cutoff rate ⌝ }
+// 2: cutoff NaN, at most 0, or at least the limit: rate × 0.5, and 0.5 for the FIR.
+pub(crate) fn cutoff_refused(cutoff: f64, limit: f64) -> bool
+    ensures { λ r. ⌜ r ≡ cutoffRefused cutoff limit ⌝ }
 {
     if cutoff != cutoff {
         return true;
@@ -51,7 +51,7 @@ pub(crate) fn cutoff_refused(cutoff: f64, rate: f64) -> bool
     if cutoff <= 0.0 {
         return true;
     }
-    cutoff >= rate * 0.5
+    cutoff >= limit
 }
 
 // 2, band pass: an edge NaN, low at most 0, high at most low, high at least rate × 0.5.

@@ -2,6 +2,7 @@
 mod butterworth;
 mod chebyshev;
 mod design;
+mod fir_lp;
 mod prototype;
 
 pub use butterworth::design_butterworth_bp;
@@ -11,3 +12,6 @@ pub use butterworth::validate_params;
 pub use chebyshev::design_chebyshev1_lp;
 pub use chebyshev::design_chebyshev2_lp;
 pub use design::Design;
+pub use fir_lp::WindowType;
+pub use fir_lp::design_fir_lp;
+pub use fir_lp::window_weight;

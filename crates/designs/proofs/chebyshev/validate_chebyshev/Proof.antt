@@ -4,6 +4,8 @@ use mathlib.Core.Bool.{Bool, true, false, cond}
 use Prim.Native.Nat.{ℕ, suc}
 use native.Mathlib.Omega.{arith}
 use lib.Ieee.{Float}
+use Rattle.scalar.specs.Operators.{_⊗_}
+use Rattle.scalar.specs.Constants.{half}
 use Rattle.runs.specs.Refusals.{Accepted, InvalidOrder, InvalidFrequency, InvalidSampleRate}
 use Rattle.runs.specs.Refusals.{orderRefused}
 use Rattle.designs.specs.Checks.{rateRefused, cutoffRefused}
@@ -18,7 +20,7 @@ numbers a b c next = cond a InvalidOrder (cond b InvalidSampleRate (cond c Inval
 -- the checks 1, 3, 2 drew a number, so what comes after them is not asked; or drew none, so that decides
 drew : (cutoff rate : Float) (n next : ℕ) → (validateParams cutoff rate n ≡ 0 → ⊥) → validateParams cutoff rate n ≡ checksThen cutoff rate n next
 unfolding validateParams
-drew cutoff rate n next = go (orderRefused n 8) (rateRefused rate) (cutoffRefused cutoff rate)
+drew cutoff rate n next = go (orderRefused n 8) (rateRefused rate) (cutoffRefused cutoff (rate ⊗ half))
   where
     go : (a b c : Bool) → (numbers a b c Accepted ≡ 0 → ⊥) → numbers a b c Accepted ≡ numbers a b c next
     go true b c h = refl
@@ -28,7 +30,7 @@ drew cutoff rate n next = go (orderRefused n 8) (rateRefused rate) (cutoffRefuse
 
 drew-none : (cutoff rate : Float) (n next : ℕ) → validateParams cutoff rate n ≡ 0 → next ≡ checksThen cutoff rate n next
 unfolding validateParams
-drew-none cutoff rate n next = go (orderRefused n 8) (rateRefused rate) (cutoffRefused cutoff rate)
+drew-none cutoff rate n next = go (orderRefused n 8) (rateRefused rate) (cutoffRefused cutoff (rate ⊗ half))
   where
     none : (d : ℕ) → suc d ≡ 0 → ⊥
     none d e = omega arith
