@@ -8,6 +8,8 @@ use Rattle.fir.specs.Fir.{fromCoeffs, FreshTaps}
 use Rattle.fir.specs.View.{capacity}
 use Rattle.designs.specs.LowPass.{butterworthLp, butterworthHp, chebyshev1Lp, chebyshev2Lp}
 use Rattle.designs.specs.BandPass.{butterworthBp}
+use Rattle.designs.specs.Fir.{firLp}
+use Rattle.designs.specs.declared.fir_lp.WindowType.{WindowType}
 
 pub record AcceptedIsFresh : Type 0 where
   pub lowPass : (n : ℕ) (cutoff rate : Float) → butterworthLp n cutoff rate .refusal ≡ 0 → FreshCascade (butterworthLp n cutoff rate .cascade)
@@ -15,4 +17,5 @@ pub record AcceptedIsFresh : Type 0 where
   pub chebyshevI : (n : ℕ) (cutoff db rate : Float) → chebyshev1Lp n cutoff db rate .refusal ≡ 0 → FreshCascade (chebyshev1Lp n cutoff db rate .cascade)
   pub chebyshevII : (n : ℕ) (cutoff db rate : Float) → chebyshev2Lp n cutoff db rate .refusal ≡ 0 → FreshCascade (chebyshev2Lp n cutoff db rate .cascade)
   pub bandPass : (n : ℕ) (low high rate : Float) → butterworthBp n low high rate .refusal ≡ 0 → FreshCascade (butterworthBp n low high rate .cascade)
+  pub fir : (n : ℕ) (cutoff : Float) (window : WindowType) → firLp n cutoff window .refusal ≡ 0 → FreshTaps capacity (firLp n cutoff window .filter)
   pub readyMade : (taps : List Float) → fromCoeffs capacity taps .refusal ≡ 0 → FreshTaps capacity (fromCoeffs capacity taps .filter)

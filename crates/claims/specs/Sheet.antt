@@ -1,5 +1,5 @@
 -- 01 "Calculations on the release sheet", over the definitions: one table, of what each row computes and what the sheet states, as numbers: a float by its bit
--- pattern, a refusal by its number, 0 for none. Rows 12 to 14 are not in it yet. Definitions only.
+-- pattern, a refusal by its number, 0 for none. Rows 13 and 14 are not in it yet. Definitions only.
 use mathlib.Core.Path.{_≡_}
 use mathlib.Core.List.{List, [], _∷_, _++_, map}
 use Prim.Native.Nat.{ℕ}
@@ -13,6 +13,7 @@ use Rattle.fir.specs.Fir.{TapsRecord, fir, fromCoeffs}
 use Rattle.fir.specs.View.{capacity}
 use Rattle.designs.specs.LowPass.{validateParams}
 use Rattle.designs.specs.BandPass.{validateBand}
+use Rattle.designs.specs.Fir.{validateFir}
 
 abbrev pub patterns : List Float → List ℕ
 patterns xs = map (toBits binary64) xs
@@ -89,6 +90,8 @@ sheet cutoff =
     ∷ row (validateParams (neg (nat 1)) (nat 0) 9 ∷ []) (1 ∷ [])
     ∷ row (validateParams cutoff (nat 0) 8 ∷ []) (3 ∷ [])
     ∷ row (validateBand (nat 100) (nat 200) (nat 0) 2 ∷ []) (2 ∷ [])
+    -- 12. FIR with 0 or 65 taps, cutoff 0.6: 1
+    ∷ row (validateFir 0 (nat 3 ⊘ nat 5) ∷ validateFir 65 (nat 3 ⊘ nat 5) ∷ []) (1 ∷ 1 ∷ [])
     ∷ []
 
 -- every row computes what it states

@@ -60,7 +60,7 @@ pub fn accepted_designs_are_fresh()
     ensures { λ _. ⌜ AcceptedIsFresh ⌝ }
 {}
 
-// The calculations on the release sheet, rows 1 to 11.
+// The calculations on the release sheet, rows 1 to 12.
 pub fn release_sheet()
     ensures { λ _. ⌜ ReleaseSheet ⌝ }
 {}

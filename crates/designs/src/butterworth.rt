@@ -11,12 +11,12 @@ ghost use Rattle.designs.specs.Butterworth.{angleOf, warped, lpPair, hpP
 ghost use Rattle.designs.specs.LowPass.{validateParams, butterworthLp, butterworthHp};
 ghost use Rattle.designs.specs.BandPass.{bpPairOf, bpUpTo, bpSections, bpCascade, validateBand, butterworthBp};
 ghost use Rattle.designs.specs.View.{designView};
-use super::design::Design;
-use super::design::band_refused;
-use super::design::cutoff_refused;
-use super::design::not_positive;
-use super::design::order_refused;
-use super::design::refused;
+use super::checks::Design;
+use super::checks::band_refused;
+use super::checks::cutoff_refused;
+use super::checks::not_positive;
+use super::checks::order_refused;
+use super::checks::refused;
 use super::prototype::Prototype;
 use super::prototype::design_from_prototype;
 use cascade::Cascade;
@@ -164,7 +164,7 @@ fn bp_cascade(order: usize, omega_l: f64, omega_h: f64) -> Cascade
 }
 
 // The checks of the band pass, in the order 1, 2, 3: 0, or the refusal number.
-fn validate_band(low: f64, high: f64, sample_rate: f64, order: usize) -> u8
+pub(crate) fn validate_band(low: f64, high: f64, sample_rate: f64, order: usize) -> u8
     ensures { λ r. ⌜ r ≡ validateBand low high «sample_rate» order ⌝ }
 {
     if order_refused(order, MAX_BAND_ORDER) {

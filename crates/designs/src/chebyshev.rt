@@ -8,9 +8,9 @@ ghost use Rattle.designs.specs.LowPass.{validateChebyshev, chebyshev1Lp,
 ghost use Rattle.designs.specs.View.{polePairView, designView};
 use super::butterworth::validate_params;
 use super::butterworth::warp;
-use super::design::Design;
-use super::design::not_positive;
-use super::design::refused;
+use super::checks::Design;
+use super::checks::not_positive;
+use super::checks::refused;
 use super::prototype::Prototype;
 use super::prototype::design_from_prototype;
 use scalar::PI;
@@ -99,7 +99,7 @@ fn chebyshev2_prototype(order: usize, stopband_db: f64, k: f64) -> Prototype
 }
 
 // The checks, in the order 1, 3, 2, 4: 0, or the refusal number.
-fn validate_chebyshev(cutoff: f64, db: f64, sample_rate: f64, order: usize) -> u8
+pub(crate) fn validate_chebyshev(cutoff: f64, db: f64, sample_rate: f64, order: usize) -> u8
     ensures { λ r. ⌜ r ≡ validateChebyshev cutoff db «sample_rate» order ⌝ }
 {
     let refusal = validate_params(cutoff, sample_rate, order);

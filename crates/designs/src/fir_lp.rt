@@ -8,8 +8,8 @@ ghost use Rattle.scalar.specs.Constants.{plusZero};
 ghost use Rattle.fir.specs.View.{capacity, madeView};
 ghost use Rattle.designs.specs.Design.{upTo};
 ghost use Rattle.designs.specs.Fir.{codeOf, weightOf, sincOf, tapOf, totalFrom, normalisedBy, firTaps, validateFir, firLp};
-use super::design::cutoff_refused;
-use super::design::order_refused;
+use super::checks::cutoff_refused;
+use super::checks::order_refused;
 use fir::Made;
 use fir::TapRecord;
 use scalar::PI;
@@ -127,7 +127,7 @@ fn normalised(coeffs: [f64; TapRecord::MAX_TAPS], n: usize) -> [f64; TapRecord::
 }
 
 // The checks, in the order 1, 2: 0, or the refusal number.
-fn validate_fir(taps: usize, cutoff: f64) -> u8
+pub(crate) fn validate_fir(taps: usize, cutoff: f64) -> u8
     ensures { λ r. ⌜ r ≡ validateFir taps cutoff ⌝ }
 {
     if order_refused(taps, TapRecord::MAX_TAPS) {

@@ -10,7 +10,7 @@ use super::butterworth::hp_section;
 use super::butterworth::lp_section;
 use super::chebyshev::cheb1_section;
 use super::chebyshev::cheb2_section;
-use super::design::Design;
+use super::checks::Design;
 use cascade::Cascade;
 use sections::FirstOrder;
 use sections::Section;

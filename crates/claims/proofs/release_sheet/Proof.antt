@@ -8,11 +8,12 @@ use Rattle.fir.specs.Fir.{pushed, next, heldOf, notAllFinite, clouding, sum, va
 use Rattle.poles.specs.Butterworth.{denominatorOf, lpBiquad, hpBiquad, lpFirst, hpFirst}
 use Rattle.designs.specs.LowPass.{validateParams}
 use Rattle.designs.specs.BandPass.{validateBand}
+use Rattle.designs.specs.Fir.{validateFir}
 use Rattle.claims.proofs.release_sheet.Statement.{statement}
 use Rattle.claims.proofs.release_sheet.Tie as tie
 
 returns : tie.Need-returns
-unfolding step pushed next heldOf notAllFinite clouding sum value mark checkTaps holding fromCoeffs denominatorOf lpBiquad hpBiquad lpFirst hpFirst validateParams validateBand orderRefused notPositive cutoffRefused bandRefused add sub mul div neg lt le isNan ofInt ofBits toBits
+unfolding validateFir step pushed next heldOf notAllFinite clouding sum value mark checkTaps holding fromCoeffs denominatorOf lpBiquad hpBiquad lpFirst hpFirst validateParams validateBand orderRefused notPositive cutoffRefused bandRefused add sub mul div neg lt le isNan ofInt ofBits toBits
 returns c = record { holds = λ cutoff. refl }
 
 pub release-sheet-spec : {M : Type 1} → statement M

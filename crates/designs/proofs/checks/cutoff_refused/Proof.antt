@@ -1,9 +1,9 @@
--- `designs::design::cutoff_refused` meets its contract. Assumes nothing.
+-- `designs::checks::cutoff_refused` meets its contract. Assumes nothing.
 use mathlib.Core.Path.{_∙_}
 use Rattle.scalar.proofs.Signs.{nan-test}
 use Rattle.designs.specs.Checks.{cutoffRefused}
-use Rattle.designs.proofs.design.cutoff_refused.Statement.{statement}
-use Rattle.designs.proofs.design.cutoff_refused.Tie as tie
+use Rattle.designs.proofs.checks.cutoff_refused.Statement.{statement}
+use Rattle.designs.proofs.checks.cutoff_refused.Tie as tie
 
 returns : tie.Need-returns
 unfolding cutoffRefused

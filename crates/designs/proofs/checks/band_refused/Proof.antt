@@ -1,9 +1,9 @@
--- `designs::design::band_refused` meets its contract. Assumes nothing.
+-- `designs::checks::band_refused` meets its contract. Assumes nothing.
 use mathlib.Core.Path.{_∙_}
 use Rattle.scalar.proofs.Signs.{nan-test}
 use Rattle.designs.specs.Checks.{bandRefused}
-use Rattle.designs.proofs.design.band_refused.Statement.{statement}
-use Rattle.designs.proofs.design.band_refused.Tie as tie
+use Rattle.designs.proofs.checks.band_refused.Statement.{statement}
+use Rattle.designs.proofs.checks.band_refused.Tie as tie
 
 returns : tie.Need-returns
 unfolding bandRefused

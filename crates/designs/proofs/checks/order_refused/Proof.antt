@@ -1,8 +1,8 @@
--- `designs::design::order_refused` meets its contract. Assumes nothing.
+-- `designs::checks::order_refused` meets its contract. Assumes nothing.
 use borrow.Author.Tests.{eq-eqb, ne-eqb}
 use Rattle.runs.specs.Refusals.{orderRefused}
-use Rattle.designs.proofs.design.order_refused.Statement.{statement}
-use Rattle.designs.proofs.design.order_refused.Tie as tie
+use Rattle.designs.proofs.checks.order_refused.Statement.{statement}
+use Rattle.designs.proofs.checks.order_refused.Tie as tie
 
 returns : tie.Need-returns
 unfolding orderRefused

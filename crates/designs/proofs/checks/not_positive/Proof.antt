@@ -1,9 +1,9 @@
--- `designs::design::not_positive` meets its contract. Assumes nothing.
+-- `designs::checks::not_positive` meets its contract. Assumes nothing.
 use mathlib.Core.Path.{_∙_}
 use Rattle.scalar.proofs.Signs.{nan-test}
 use Rattle.designs.specs.Checks.{notPositive}
-use Rattle.designs.proofs.design.not_positive.Statement.{statement}
-use Rattle.designs.proofs.design.not_positive.Tie as tie
+use Rattle.designs.proofs.checks.not_positive.Statement.{statement}
+use Rattle.designs.proofs.checks.not_positive.Tie as tie
 
 returns : tie.Need-returns
 unfolding notPositive

@@ -1,7 +1,7 @@
--- `designs::design::refused` meets its contract. Assumes nothing.
+-- `designs::checks::refused` meets its contract. Assumes nothing.
 use borrow.Author.Needs.{needs}
-use Rattle.designs.proofs.design.refused.Statement.{statement}
-use Rattle.designs.proofs.design.refused.Tie as tie
+use Rattle.designs.proofs.checks.refused.Statement.{statement}
+use Rattle.designs.proofs.checks.refused.Tie as tie
 
 blank-requires : tie.Need-blank-requires
 blank-requires c κs = search needs
