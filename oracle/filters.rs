@@ -2,6 +2,7 @@
 #![allow(dead_code)]
 pub mod butterworth;
 pub mod chebyshev;
+pub mod fir;
 
 #[derive(Debug, Clone, Copy, PartialEq, Eq)]
 pub enum FilterError {

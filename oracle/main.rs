@@ -1,7 +1,11 @@
 // The oracle: answers request lines on standard input by the published Rust, in the language of the program `sheet`.
 // Requests: sqrt sin cos tan exp ln sinh cosh pow10; lowpass highpass bandpass chebyshev1 chebyshev2; cstep creset.
+// For the FIR filter, which is current beside the cascade: `fir TAPS CUTOFF WINDOW`, the window one of rectangular hamming
+// hanning blackman; `taps T0 T1 ..`, ready-made; `fstep X`; `freset`. A design or ready-made taps answer `fir COUNT CODE` and
+// the taps; the code is 0 to 3 in the order above, 4 for ready-made. Numbers of taps that are not built answer an error.
 mod core;
 mod elementary;
+mod taps;
 
 use crate::core::filters::butterworth::*;
 use crate::core::filters::chebyshev::*;
@@ -139,6 +143,7 @@ fn design(kind: &str, n: usize, v: &[f64]) -> Result<Box<dyn Filter>, u8> {
 fn main() {
     let mut current: Option<Box<dyn Filter>> = None;
     let mut clouded = false;
+    let mut fir: Option<taps::Fir> = None;
     let out = std::io::stdout();
     let mut out = BufWriter::new(out.lock());
     for line in std::io::stdin().lock().lines() {
@@ -147,7 +152,9 @@ fn main() {
         if tokens.is_empty() || tokens[0].starts_with('#') {
             continue;
         }
-        let numbers: Option<Vec<f64>> = tokens[1..].iter().map(|t| number(t)).collect();
+        let named = tokens[0] == "fir" && tokens.len() == 4;
+        let last = if named { 3 } else { tokens.len() };
+        let numbers: Option<Vec<f64>> = tokens[1..last].iter().map(|t| number(t)).collect();
         let Some(v) = numbers else {
             writeln!(out, "error number").unwrap();
             continue;
@@ -190,6 +197,18 @@ fn main() {
                     "done".to_string()
                 }
             },
+            ("fir", 2) if named => {
+                let (text, made) = taps::design(tokens[1].parse().unwrap(), v[1], tokens[3]);
+                fir = made;
+                text
+            }
+            ("taps", _) => {
+                let (text, made) = taps::from_coeffs(&v);
+                fir = made;
+                text
+            }
+            ("fstep", 1) => taps::step(&mut fir, v[0]),
+            ("freset", 0) => taps::reset(&mut fir),
             _ => "error request".to_string(),
         };
         writeln!(out, "{answer}").unwrap();

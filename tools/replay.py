@@ -1,5 +1,5 @@
 #!/usr/bin/env python3
-"""Makes the fixed list that the program `replay` runs: crates/replay/src/table.rt and crates/replay/stdout.
+"""Makes the fixed list that the program `replay` runs, crates/replay/src/table.rt and then fir_table.rt, and its stdout.
 
 Usage, from the repository's root, after oracle/build: tools/replay.py
 
@@ -11,7 +11,9 @@ import struct
 import subprocess
 import sys
 
-KINDS = {"lowpass": 1, "highpass": 2, "bandpass": 3, "cstep": 4, "creset": 5, "chebyshev1": 6, "chebyshev2": 7}
+KINDS = {"lowpass": 1, "highpass": 2, "bandpass": 3, "cstep": 4, "creset": 5, "chebyshev1": 6, "chebyshev2": 7,
+         "fir": 8, "fstep": 9, "freset": 10, "taps": 11}
+WINDOWS = ["rectangular", "hamming", "hanning", "blackman"]
 NAN = 0x7FF8000000000000
 
 
@@ -102,12 +104,69 @@ def chebyshev(dice, steps):
         yield (kind, 0, NAN_F, NAN_F, NAN_F)
 
 
+FIR_CUTOFFS = [0.25, 0.1, 0.01, 0.499, 1e-300, 5e-324, struct.unpack("<d", struct.pack("<Q", bits(0.5) - 1))[0]]
+FIR_REFUSED = [0.0, -0.0, -1.0, 0.5, 0.6, NAN_F, INF, -INF]
+FAULTS = [NAN_F, INF, -INF]
+
+
+def fir_steps(dice, count, faults):
+    """Some samples, and each fault with so many samples after it that a filter of fewer taps forgets it."""
+    for x in samples(dice, count):
+        yield ("fstep", 0, x, 0.0, 0.0)
+    for fault in faults:
+        yield ("fstep", 0, fault, 0.0, 0.0)
+        for x in samples(dice, count):
+            yield ("fstep", 0, x, 0.0, 0.0)
+
+
+def fir(dice):
+    """Every window at every number of taps at two cutoffs; refusals; ready-made taps; steps and resets of each. A design's
+    second number is the window's code."""
+    reset = ("freset", 0, 0.0, 0.0, 0.0)
+    yield from fir_steps(dice, 1, [])  # the blank record
+    yield reset
+    turn = 0
+    for taps in (1, 2, 3, 8, 31, 32, 63, 64):
+        for window in range(4):
+            for _ in range(2):
+                turn += 1
+                cutoff = dice.uniform(0.001, 0.499) if turn % 8 == 0 else FIR_CUTOFFS[turn % 7]
+                yield ("fir", taps, cutoff, window, 0.0)
+                yield from fir_steps(dice, 2, [])
+    for taps in (1, 2, 3, 8):
+        for window in range(4):
+            yield ("fir", taps, dice.uniform(0.01, 0.45), window, 0.0)
+            yield from fir_steps(dice, taps + 1, FAULTS if taps < 8 else [FAULTS[window % 3]])
+            yield ("fstep", 0, FAULTS[window % 3], 0.0, 0.0)
+            yield reset
+            yield from fir_steps(dice, 2, [])
+    yield ("fir", 64, 0.2, 2, 0.0)
+    yield ("fstep", 0, INF, 0.0, 0.0)
+    yield from fir_steps(dice, 66, [])
+    for window in range(4):
+        for taps in (0, 65, 2**32, 2**63):
+            yield ("fir", taps, dice.choice([0.6, 0.25, NAN_F]), window, 0.0)
+        for cutoff in FIR_REFUSED:
+            yield ("fir", dice.choice([1, 2, 3, 8, 31, 32, 63, 64]), cutoff, window, 0.0)
+        yield from fir_steps(dice, 1, [])
+        yield reset
+    for given in ([0.5], [-0.0], [NAN_F], [0.5, 0.5], [INF, 1.0], [0.0, 1e308], [0.25, 0.5, 0.25], [1.0, -INF, 5e-324], []):
+        yield ("taps", len(given), *(given + [0.0, 0.0, 0.0])[:3])
+        yield from fir_steps(dice, 4, FAULTS)
+        yield reset
+        yield from fir_steps(dice, 2, [])
+
+
 def line(q):
     kind, n, a, b, c = q
-    if kind == "cstep":
-        return f"cstep {hexadecimal(a)}"
-    if kind == "creset":
-        return "creset"
+    if kind in ("cstep", "fstep"):
+        return f"{kind} {hexadecimal(a)}"
+    if kind in ("creset", "freset"):
+        return kind
+    if kind == "fir":
+        return f"fir {n} {hexadecimal(a)} {WINDOWS[b]}"
+    if kind == "taps":
+        return " ".join(["taps"] + [hexadecimal(x) for x in (a, b, c)[:n]])
     numbers = [a, b] if kind in ("lowpass", "highpass") else [a, b, c]
     return " ".join([kind, str(n)] + [hexadecimal(x) for x in numbers])
 
@@ -115,7 +174,7 @@ def line(q):
 def words(answer):
     tokens = answer.split()
     number = lambda t: NAN if t == "NaN" else int(t, 16)
-    if tokens[0] == "cascade":
+    if tokens[0] in ("cascade", "fir"):
         return [0, int(tokens[1]), int(tokens[2])] + [number(t) for t in tokens[3:]]
     if tokens[0] in ("clear", "clouded"):
         return [["clear", "clouded"].index(tokens[0]), number(tokens[1])]
@@ -129,26 +188,39 @@ def ask(lines):
     return done.stdout.splitlines()
 
 
-def main():
-    dice = random.Random(1)
-    asked = list(requests(dice))
+def table(asked):
+    """The words of the requests and of their answers."""
     answers = ask([line(q) for q in asked])
     assert len(answers) == len(asked)
-    table = []
+    made = []
     for q, answer in zip(asked, answers):
         kind, n, a, b, c = q
         expected = words(answer)
-        if kind == "cstep" and answer.startswith("refused"):
+        if kind in ("cstep", "fstep") and answer.startswith("refused"):
             expected = [2] + expected
-        table += [KINDS[kind], n, bits(a), bits(b), bits(c), len(expected)] + expected
-    rows = "".join(f"    0x{w:x},\n" for w in table)
-    with open("crates/replay/src/table.rt", "w") as out:
+        second = b if kind == "fir" else bits(b)
+        made += [KINDS[kind], n, bits(a), second, bits(c), len(expected)] + expected
+    return made
+
+
+def write(name, prefix, made):
+    rows = "".join(f"    0x{w:x},\n" for w in made)
+    with open(f"crates/replay/src/{name}.rt", "w") as out:
         out.write("// Made by tools/replay.py from the Rust's answers. A request is its kind, an order, three numbers, how many words its answer\n"
                   "// has, and the answer.\n\n"
-                  f"pub const COUNT: usize = {len(table)};\n\npub const WORDS: [u64; {len(table)}] = [\n{rows}];\n")
+                  f"pub const {prefix}COUNT: usize = {len(made)};\n\npub const {prefix}WORDS: [u64; {len(made)}] = [\n{rows}];\n")
+
+
+def main():
+    dice = random.Random(1)
+    cascades, firs = list(requests(dice)), list(fir(dice))
+    cascade_words, fir_words = table(cascades), table(firs)
+    write("table", "", cascade_words)
+    write("fir_table", "FIR_", fir_words)
+    count = len(cascades) + len(firs)
     with open("crates/replay/stdout", "w") as out:
-        out.write(f"{len(asked)} requests, {len(asked)} agree with the Rust\n")
-    print(f"{len(asked)} requests, {len(table)} words")
+        out.write(f"{count} requests, {count} agree with the Rust\n")
+    print(f"{count} requests, {len(cascade_words)} and {len(fir_words)} words")
 
 
 if __name__ == "__main__":

@@ -7,13 +7,16 @@ use Rattle.replay.proofs.run.Statement.{statement}
 use Rattle.replay.proofs.run.Tie as tie
 
 abbrev Inv-loop : tie.InvT-loop
-Inv-loop score₀ cascade₀ at₀ score cascade at = (score .requests ≤ at) × (score .agreed ≤ at) × (at ≤ 900000)
+Inv-loop score₀ cascade₀ filter₀ at₀ score cascade filter at = (score .requests ≤ at) × (score .agreed ≤ at) × (at ≤ 900000)
 
 abbrev μ-loop : tie.MeasureT-loop
-μ-loop score₀ cascade₀ at₀ score cascade at = 1000000 - at
+μ-loop score₀ cascade₀ filter₀ at₀ score cascade filter at = 1000000 - at
 
 blank-requires : tie.Need-blank-requires Inv-loop μ-loop
 blank-requires c κs = search needs
+
+blank-requires-2 : tie.Need-blank-requires-2 Inv-loop μ-loop
+blank-requires-2 c κs = search needs
 
 loop-holds : tie.Need-loop-holds Inv-loop μ-loop
 loop-holds c = omega arith
@@ -58,6 +61,7 @@ run-spec =
     Inv-loop
     μ-loop
     blank-requires
+    blank-requires-2
     loop-holds
     request-requires
     add-score

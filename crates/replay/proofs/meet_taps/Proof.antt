@@ -1,0 +1,51 @@
+-- `replay::meet_taps` meets its contract. The loop's invariant: its counter is at most 64. Assumes nothing.
+use Prim.Native.Nat.{_-_, _≤_}
+use native.Mathlib.Omega.{arith}
+use borrow.Author.Needs.{needs}
+use Rattle.replay.proofs.meet_taps.Statement.{statement}
+use Rattle.replay.proofs.meet_taps.Tie as tie
+
+abbrev Inv-loop : tie.InvT-loop
+Inv-loop length taps p₀ i₀ p i = i ≤ 64
+
+abbrev μ-loop : tie.MeasureT-loop
+μ-loop length taps p₀ i₀ p i = 64 - i
+
+loop-holds : tie.Need-loop-holds Inv-loop μ-loop
+loop-holds c = omega arith
+
+mul-meet-float : tie.Need-mul-meet-float Inv-loop μ-loop
+mul-meet-float c = omega arith
+
+array-read-meet-float : tie.Need-array-read-meet-float Inv-loop μ-loop
+array-read-meet-float c = omega arith
+
+meet-float-requires : tie.Need-meet-float-requires Inv-loop μ-loop
+meet-float-requires c κs = search needs
+
+add-i : tie.Need-add-i Inv-loop μ-loop
+add-i c = omega arith
+
+loop-less : tie.Need-loop-less Inv-loop μ-loop
+loop-less c = omega arith
+
+loop-again : tie.Need-loop-again Inv-loop μ-loop
+loop-again c = omega arith
+
+returns : tie.Need-returns Inv-loop μ-loop
+returns c = search needs
+
+pub meet-taps-spec : {M : Type 1} → statement M
+meet-taps-spec =
+    tie.close
+    (tie.spec
+    Inv-loop
+    μ-loop
+    loop-holds
+    mul-meet-float
+    array-read-meet-float
+    meet-float-requires
+    add-i
+    loop-less
+    loop-again
+    returns)
