@@ -14,6 +14,7 @@ use Rattle.runs.proofs.Laws.{good-order}
 use Rattle.designs.specs.Design.{refusedDesign, accepted, unlessRefused}
 use Rattle.designs.specs.LowPass.{validateParams, validateChebyshev}
 use Rattle.designs.specs.BandPass.{validateBand}
+use Rattle.fir.specs.View.{capacity}
 use Rattle.designs.specs.Fir.{validateFir}
 
 -- parameters that pass have a good order: it is tested first, whatever is tested after it
@@ -36,9 +37,9 @@ pub good-band : (low high rate : Float) (n : ℕ) → validateBand low high rate
 unfolding validateBand
 good-band low high rate n e = good-order n 4 (first-passed (orderRefused n 4) _ e)
 
-pub good-fir : (n : ℕ) (cutoff : Float) → validateFir n cutoff ≡ 0 → (0 < n) × (n ≤ 64)
+pub good-fir : (n : ℕ) (cutoff : Float) → validateFir n cutoff ≡ 0 → (0 < n) × (n ≤ capacity)
 unfolding validateFir
-good-fir n cutoff e = good-order n 64 (first-passed (orderRefused n 64) _ e)
+good-fir n cutoff e = good-order n capacity (first-passed (orderRefused n capacity) _ e)
 
 -- what a design shows where it returns, v being what its checks drew
 pub is-refused : (v : ℕ) (c : CascadeRecord) → (v ≡ 0 → ⊥) → refusedDesign v ≡ unlessRefused v c
