@@ -1,6 +1,5 @@
 -- 01 "Cascade" and its part of "Run answer": the check, the number answered to a sample, the mark, and the record after it. Definitions only.
 use Prim.Native.Nat.{ℕ, zero, suc}
-use mathlib.Core.Path.{_≡_}
 use mathlib.Core.Bool.{Bool, true, false, not, _&&_, _||_, cond}
 use mathlib.Core.List.{List, [], _∷_, map}
 use lib.Dec.{leb, ltb}
@@ -80,8 +79,3 @@ module _ (f : Format) where
   -- the cascade as a filter
   abbrev pub cascade : Filter
   cascade = record { State = CascadeRecord; check = checkCascade; refusal = BadCascade; value = value; mark = mark; next = next; cleared = clearedCascade }
-
--- 01 "Forgetting rule": fresh means as an accepted design or reset returned it: the check passes, all carried values are +0 and the flag is off
-pub record FreshCascade (c : CascadeRecord) : Type 0 where
-  pub checked : checkCascade c ≡ true
-  pub cleared : clearedCascade c ≡ c

@@ -1,12 +1,14 @@
 -- The code's types at f64, read field by field as the records of these definitions. Definitions only.
-use mathlib.Core.List.{map}
-use Rattle.runs.specs.Runs.{Step, Reset}
+use mathlib.Core.List.{List, map}
+use lib.Ieee.{Float}
+use Rattle.runs.specs.Runs.{Step, Reset, Block}
 use Rattle.runs.specs.View.{answerView}
 use Rattle.sections.specs.View.{sectionView, firstView}
 use Rattle.cascade.specs.Cascade.{CascadeRecord}
 use Rattle.cascade.specs.declared.Cascade.{Cascade}
 use Rattle.cascade.specs.declared.Updated.{Updated}
 use Rattle.cascade.specs.declared.WasReset.{WasReset}
+use Rattle.cascade.specs.declared.Blocked.{Blocked}
 
 abbrev pub cascadeView : Cascade → CascadeRecord
 cascadeView c = record { sections = map sectionView (c .sections); count = c .count; first = firstView (c .first); hasFirst = c .«has_first»; clouded = c .clouded }
@@ -16,3 +18,7 @@ updatedView r = record { answer = answerView (r .answer); state = cascadeView (r
 
 abbrev pub resetView : WasReset → Reset CascadeRecord
 resetView r = record { refusal = r .refusal; state = cascadeView (r .cascade) }
+
+-- with the output after it
+abbrev pub blockView : Blocked → List Float → Block CascadeRecord
+blockView r output = record { refusal = r .refusal; clouded = r .clouded; state = cascadeView (r .cascade); output = output }

@@ -1,17 +1,17 @@
-// 01 "Cascade": four second-order sections, a first-order part, and running them a sample at a time. The Rust has this
-// once for each kind of filter (ButterworthLp, ButterworthHp, ButterworthBp, ChebyshevI, ChebyshevII); here it stands
-// once.
+// 01 "Cascade": four second-order sections, a first-order part, and running them, a sample or a block at a time. The
+// Rust has this once for each kind of filter (ButterworthLp, ButterworthHp, ButterworthBp, ChebyshevI, ChebyshevII); here
+// it stands once. `block` is added.
 ghost use mathlib.Core.Path.{_≡_};
 ghost use mathlib.Core.Bool.{cond, _||_};
 ghost use mathlib.Core.List.{map};
 ghost use Prim.Native.Nat.{_≤_};
 ghost use lib.Ieee.{binary64};
-ghost use Rattle.runs.specs.Runs.{step, reset};
+ghost use Rattle.runs.specs.Runs.{step, reset, block};
 ghost use Rattle.sections.specs.Section.{clearedBiquad};
 ghost use Rattle.sections.specs.FirstOrder.{firstOut, firstNext};
 ghost use Rattle.sections.specs.View.{sectionView, firstView};
 ghost use Rattle.cascade.specs.Cascade.{sectionsOut, sectionsNext, value, moved, clouding, next, checkCascade, blankCascade, cascade};
-ghost use Rattle.cascade.specs.View.{cascadeView, updatedView, resetView};
+ghost use Rattle.cascade.specs.View.{cascadeView, updatedView, resetView, blockView};
 use runs::Answer;
 use sections::FirstOrder;
 use sections::FirstProcessed;
@@ -37,6 +37,13 @@ pub struct Updated {
 // What `reset` returns: 0 or the refusal number, and the cascade.
 pub struct WasReset {
     pub refusal: u8,
+    pub cascade: Cascade,
+}
+
+// What `block` returns: 0 or the refusal number, how many answers were Clouded, and the cascade.
+pub struct Blocked {
+    pub refusal: u8,
+    pub clouded: usize,
     pub cascade: Cascade,
 }
 
@@ -230,6 +237,45 @@ impl Cascade {
                 has_first: self.has_first,
                 clouded: false,
             },
+        }
+    }
+
+    // A block of samples, each as `update` has it: the answers in the first places of the output, later places left. An
+    // output shorter than the input is refused by 5.
+    pub fn block(self, input: &[f64], output: &mut [f64]) -> Blocked
+        ensures { λ r. ⌜ blockView r (now (output .exit)) ≡ block (cascade binary64) (cascadeView self) (now (input .entry)) (now (output .entry)) ⌝ }
+    {
+        if !self.check() {
+            return Blocked {
+                refusal: runs::BAD_CASCADE,
+                clouded: 0,
+                cascade: self,
+            };
+        }
+        if output.len() < input.len() {
+            return Blocked {
+                refusal: runs::SHORT_OUTPUT,
+                clouded: 0,
+                cascade: self,
+            };
+        }
+        let mut cascade = self;
+        let mut clouded: usize = 0;
+        let mut i: usize = 0;
+        while i < input.len() {
+            let p = cascade.pass(input[i]);
+            output[i] = p.out;
+            let next = p.cascade;
+            cascade = next;
+            if next.clouded {
+                clouded += 1;
+            }
+            i += 1;
+        }
+        Blocked {
+            refusal: 0,
+            clouded,
+            cascade,
         }
     }
 }

@@ -11,10 +11,10 @@ use lib.ListN.{length, take, drop, getD, set, length-take, length-set, drop-of-l
 use lib.Seq.{drop-cons, take-suc, set-at, getD-at, length-take-le, getD-take, take-length}
 use lib.Ieee.{Float, nan, Format, add, mul}
 use lib.Ieee.Scale.{finite}
-use borrow.Author.Tests.{leb-true, lt-ltb, le-ltb, eq-eqb, ne-eqb}
+use borrow.Author.Tests.{leb-true, le-leb, lt-ltb, le-ltb, eq-eqb, ne-eqb}
 use Rattle.runs.specs.Refusals.{InvalidOrder, Accepted, orderRefused}
-use Rattle.runs.specs.Runs.{plusZero, marked, answer}
-use Rattle.fir.specs.Fir.{TapsRecord, ReadyMade, pushed, next, heldOf, notAllFinite, clouding, sum, value, mark, checkTaps, zeros, blankTaps, fir, holding, Made, fromCoeffs}
+use Rattle.runs.specs.Runs.{plusZero, notAllFinite, marked, answer}
+use Rattle.fir.specs.Fir.{TapsRecord, ReadyMade, pushed, next, heldOf, clouding, sum, value, mark, checkTaps, zeros, blankTaps, clearedTaps, fir, holding, Made, fromCoeffs}
 
 snoc-take : (l ys : List Float) (i : ℕ) → i < length l → take i l ++ getD l i nan ∷ ys ≡ take (suc i) l ++ ys
 snoc-take l ys i h = rw (take-suc l i nan, append-assoc)
@@ -58,7 +58,7 @@ sum-turn f ts s y n i h ht hs p =
     let d = drop-cons (take n s) i nan l in
     rw (add-one, ← getD-take n s i nan h) (rw (e, d) at p)
 
-sum-none : (f : Format) (ts : List Float) (y : Float) → sum f y ts [] ≡ y
+pub sum-none : (f : Format) (ts : List Float) (y : Float) → sum f y ts [] ≡ y
 unfolding sum
 sum-none f [] y = refl
 sum-none f (t ∷ ts) y = refl
@@ -111,6 +111,30 @@ sizes capacity r h =
       within = leb-true (r .size) capacity (q .1);
       few = leb-true (r .held) (r .size) (both (leb (r .held) (r .size)) (leb (r .window) ReadyMade) (p .1) .0);
     }
+
+-- and what has it passes, if the code is a window's
+checked : (capacity : ℕ) (r : TapsRecord) → Sizes capacity (r .size) (r .held) → leb (r .window) ReadyMade ≡ true → checkTaps capacity r ≡ true
+unfolding checkTaps
+checked capacity r z w = rw (le-leb 1 (r .size) (z .some), le-leb (r .size) capacity (z .within), le-leb (r .held) (r .size) (z .few), w)
+
+window-in : (capacity : ℕ) (r : TapsRecord) → checkTaps capacity r ≡ true → leb (r .window) ReadyMade ≡ true
+unfolding checkTaps
+window-in capacity r h =
+    both (leb (r .held) (r .size)) (leb (r .window) ReadyMade) (both (leb 1 (r .size) && leb (r .size) capacity) (leb (r .held) (r .size) && leb (r .window) ReadyMade) h .1) .1
+
+-- a sample leaves the record good
+pub check-next : (capacity : ℕ) (r : TapsRecord) (x : Float) → checkTaps capacity r ≡ true → checkTaps capacity (next r x) ≡ true
+unfolding next
+check-next capacity r x h =
+    let z = sizes capacity r h in
+    checked capacity (next r x) (record { some = z .some; within = z .within; few = omega arith }) (window-in capacity r h)
+
+-- and so does a reset
+pub check-cleared : (capacity : ℕ) (r : TapsRecord) → checkTaps capacity r ≡ true → checkTaps capacity (clearedTaps capacity r) ≡ true
+unfolding clearedTaps
+check-cleared capacity r h =
+    let z = sizes capacity r h in
+    checked capacity (clearedTaps capacity r) (record { some = z .some; within = z .within; few = omega arith }) (window-in capacity r h)
 
 -- ---- one sample taken
 pub passed : (f : Format) (r : TapsRecord) (x : Float) {out : Float} {m : Bool} {s : List Float} {h : ℕ}

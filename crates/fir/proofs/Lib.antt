@@ -1,3 +1,5 @@
--- The laws by which the functions meet their contracts.
+-- The proofs that belong to no one function. Laws: loops over taps and samples, the check, and what a step and a block return. Fresh: what is fresh.
+-- Forgetting: the forgetting rule.
 pub mod Laws
 pub mod Fresh
+pub mod Forgetting

@@ -1,15 +1,13 @@
 -- 01 "Tap record" and its part of "Run answer": the check, ready-made taps, the number answered to a sample, the mark, and the record after it, for records
 -- of any capacity. Definitions only.
 use Prim.Native.Nat.{ℕ, _+_, _-_, min}
-use mathlib.Core.Path.{_≡_}
-use mathlib.Core.Bool.{Bool, true, false, not, _&&_, _||_, cond}
+use mathlib.Core.Bool.{Bool, _&&_, cond}
 use mathlib.Core.List.{List, [], _∷_, _++_}
 use lib.Dec.{leb}
 use lib.ListN.{length, take, drop, replicate}
 use lib.Ieee.{Float, Format, add, mul}
-use lib.Ieee.Scale.{finite}
 use Rattle.runs.specs.Refusals.{Accepted, InvalidOrder, BadTaps, orderRefused}
-use Rattle.runs.specs.Runs.{plusZero, Filter}
+use Rattle.runs.specs.Runs.{plusZero, notAllFinite, Filter}
 
 -- taps, samples, a length, a held count and a window code
 pub record TapsRecord : Type 0 where
@@ -53,10 +51,6 @@ next r x = record {
 -- the held samples, newest first
 unfoldable pub heldOf : TapsRecord → List Float
 heldOf r = take (r .held) (r .samples)
-
-unfoldable pub notAllFinite : List Float → Bool
-notAllFinite [] = false
-notAllFinite (x ∷ xs) = not (finite x) || notAllFinite xs
 
 -- THE MARK of an answer, from the taps and the held samples: Clouded exactly when a held one is not finite
 unfoldable pub clouding : List Float → List Float → Bool
@@ -108,8 +102,3 @@ module _ (capacity : ℕ) where
   -- ready-made taps
   unfoldable pub fromCoeffs : List Float → Made
   fromCoeffs ts = cond (orderRefused (length ts) capacity) (record { refusal = InvalidOrder; filter = blankTaps }) (record { refusal = Accepted; filter = holding ts ReadyMade })
-
-  -- 01 "Forgetting rule": fresh means as an accepted design, set of ready-made taps or reset returned it
-  pub record FreshTaps (r : TapsRecord) : Type 0 where
-    pub checked : checkTaps r ≡ true
-    pub cleared : clearedTaps r ≡ r

@@ -1,11 +1,14 @@
 -- The code's types at f64, read field by field as the records of these definitions. Definitions only.
 use Prim.Native.Nat.{ℕ}
-use Rattle.runs.specs.Runs.{Step, Reset}
+use mathlib.Core.List.{List}
+use lib.Ieee.{Float}
+use Rattle.runs.specs.Runs.{Step, Reset, Block}
 use Rattle.runs.specs.View.{answerView}
 use Rattle.fir.specs.Fir.{TapsRecord, Made as MadeRecord}
 use Rattle.fir.specs.declared.TapRecord.{TapRecord}
 use Rattle.fir.specs.declared.Updated.{Updated}
 use Rattle.fir.specs.declared.WasReset.{WasReset}
+use Rattle.fir.specs.declared.Blocked.{Blocked}
 use Rattle.fir.specs.declared.Made.{Made}
 
 -- the code's capacity
@@ -23,3 +26,7 @@ resetView r = record { refusal = r .refusal; state = tapsView (r .filter) }
 
 abbrev pub madeView : Made → MadeRecord
 madeView m = record { refusal = m .refusal; filter = tapsView (m .filter) }
+
+-- with the output after it
+abbrev pub blockView : Blocked → List Float → Block TapsRecord
+blockView r output = record { refusal = r .refusal; clouded = r .clouded; state = tapsView (r .filter); output = output }

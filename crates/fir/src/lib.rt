@@ -1,13 +1,13 @@
-// 01 "Tap record": the FIR filter of 002 fir.rs, run a sample at a time. The Rust keeps its samples in a Deque; here they
-// stand in an array, newest at place 0.
+// 01 "Tap record": the FIR filter of 002 fir.rs, run a sample or a block at a time. The Rust keeps its samples in a Deque;
+// here they stand in an array, newest at place 0. `block` is added.
 ghost use mathlib.Core.Path.{_≡_};
 ghost use mathlib.Core.Bool.{true};
 ghost use Prim.Native.Nat.{_≤_};
 ghost use lib.ListN.{length, take};
 ghost use lib.Ieee.{binary64};
-ghost use Rattle.runs.specs.Runs.{plusZero, step, reset};
-ghost use Rattle.fir.specs.Fir.{pushed, sum, notAllFinite, clouding, checkTaps, zeros, blankTaps, next, value, mark, fir, fromCoeffs};
-ghost use Rattle.fir.specs.View.{capacity, tapsView, updatedView, resetView, madeView};
+ghost use Rattle.runs.specs.Runs.{plusZero, notAllFinite, step, reset, block};
+ghost use Rattle.fir.specs.Fir.{pushed, sum, clouding, checkTaps, zeros, blankTaps, next, value, mark, fir, fromCoeffs};
+ghost use Rattle.fir.specs.View.{capacity, tapsView, updatedView, resetView, blockView, madeView};
 use runs::Answer;
 
 pub struct TapRecord {
@@ -29,6 +29,13 @@ pub struct Updated {
 // What `reset` returns: 0 or the refusal number, and the record.
 pub struct WasReset {
     pub refusal: u8,
+    pub filter: TapRecord,
+}
+
+// What `block` returns: 0 or the refusal number, how many answers were Clouded, and the record.
+pub struct Blocked {
+    pub refusal: u8,
+    pub clouded: usize,
     pub filter: TapRecord,
 }
 
@@ -252,6 +259,45 @@ impl TapRecord {
                 held: 0,
                 window: self.window,
             },
+        }
+    }
+
+    // A block of samples, each as `update` has it: the answers in the first places of the output, later places left. An
+    // output shorter than the input is refused by 5.
+    pub fn block(self, input: &[f64], output: &mut [f64]) -> Blocked
+        ensures { λ r. ⌜ blockView r (now (output .exit)) ≡ block (fir capacity binary64) (tapsView self) (now (input .entry)) (now (output .entry)) ⌝ }
+    {
+        if !self.check() {
+            return Blocked {
+                refusal: runs::BAD_TAPS,
+                clouded: 0,
+                filter: self,
+            };
+        }
+        if output.len() < input.len() {
+            return Blocked {
+                refusal: runs::SHORT_OUTPUT,
+                clouded: 0,
+                filter: self,
+            };
+        }
+        let mut filter = self;
+        let mut clouded: usize = 0;
+        let mut i: usize = 0;
+        while i < input.len() {
+            let p = filter.pass(input[i]);
+            output[i] = p.out;
+            let next = p.filter;
+            filter = next;
+            if p.clouded {
+                clouded += 1;
+            }
+            i += 1;
+        }
+        Blocked {
+            refusal: 0,
+            clouded,
+            filter,
         }
     }
 }

@@ -1,13 +1,18 @@
--- Laws of a step and a reset, for any filter: what a function shows where it returns; and of refusal 1. Assumes nothing.
-use mathlib.Core.Path.{_≡_}
-use mathlib.Core.Bool.{Bool, true, false, _||_, true≢false}
-use Prim.Native.Nat.{ℕ, zero, suc, _<_, _≤_}
-use native.Mathlib.Nat.{zero-lt-suc}
+-- Laws of a step, a reset and a block, for any filter: what a function shows where it returns, and the loop of a block; and of refusal 1. Assumes nothing.
+use mathlib.Core.Path.{_≡_, refl, sym, ap, _∙_}
+use mathlib.Core.Bool.{Bool, true, false, _||_, cond, true≢false}
+use mathlib.Core.List.{List, [], _∷_, _++_, append-assoc}
+use Prim.Native.Nat.{ℕ, zero, suc, _+_, _<_, _≤_}
+use native.Mathlib.Nat.{zero-lt-suc, zero-add, add-zero}
+use native.Mathlib.Numerals.{add-one}
+use native.Mathlib.Omega.{arith}
 use lib.Dec.{eqb, ltb}
-use borrow.Author.Tests.{ltb-false}
-use Rattle.runs.specs.Refusals.{orderRefused}
-use lib.Ieee.{Float}
-use Rattle.runs.specs.Runs.{Answer, refused, Filter, answer, step, reset}
+use lib.ListN.{length, getD, set, take, drop, length-set, take-append-drop, drop-of-length-le}
+use lib.Seq.{drop-cons, take-suc-set, drop-set-lt}
+use borrow.Author.Tests.{ltb-false, lt-ltb, le-ltb}
+use Rattle.runs.specs.Refusals.{orderRefused, ShortOutput}
+use lib.Ieee.{Float, nan}
+use Rattle.runs.specs.Runs.{Answer, refused, marked, isClouded, cloudedIn, placed, written, Filter, Step, Reset, Block, refusedBlock, Fresh, answer, step, reset, answers, after, block}
 
 module _ (F : Filter) (s : F .State) where
   pub step-refused : (x : Float) → F .check s ≡ false → record { answer = refused (F .refusal); state = s } ≡ step F s x
@@ -25,6 +30,113 @@ module _ (F : Filter) (s : F .State) where
   pub reset-done : {s′ : F .State} → F .check s ≡ true → s′ ≡ F .cleared s → record { refusal = 0; state = s′ } ≡ reset F s
   unfolding reset
   reset-done h e = rw (h, e)
+
+  pub step-is : (x : Float) → F .check s ≡ true → step F s x ≡ record { answer = answer F s x; state = F .next s x }
+  unfolding step
+  step-is x h = rw h
+
+  -- the first of some samples
+  pub answers-cons : (x : Float) (xs : List Float) → F .check s ≡ true → answers F s (x ∷ xs) ≡ answer F s x ∷ answers F (F .next s x) xs
+  unfolding answers
+  answers-cons x xs h = rw (step-is x h)
+
+  pub after-cons : (x : Float) (xs : List Float) → F .check s ≡ true → after F s (x ∷ xs) ≡ after F (F .next s x) xs
+  unfolding after
+  after-cons x xs h = rw (step-is x h)
+
+  pub block-refused : (input output : List Float) → F .check s ≡ false → refusedBlock (F .refusal) s output ≡ block F s input output
+  unfolding block
+  block-refused input output h = rw h
+
+  pub block-short : (input output : List Float) → F .check s ≡ true → length output < length input → refusedBlock ShortOutput s output ≡ block F s input output
+  unfolding block
+  block-short input output h l = rw (h, lt-ltb (length output) (length input) l)
+
+-- an accepted reset returns a fresh record, if what a reset makes of a good record is fresh and no refusal has the number 0
+pub reset-fresh : (F : Filter) (s : F .State) → (F .refusal ≡ 0 → ⊥) → (F .check s ≡ true → Fresh F (F .cleared s)) → reset F s .refusal ≡ 0 → Fresh F (reset F s .state)
+unfolding reset
+reset-fresh F s numbered fresh = go (F .check s) refl
+  where
+    done : Bool → Reset (F .State)
+    done b = cond b (record { refusal = 0; state = F .cleared s }) (record { refusal = F .refusal; state = s })
+
+    go : (b : Bool) → F .check s ≡ b → done b .refusal ≡ 0 → Fresh F (done b .state)
+    go true e r = fresh e
+    go false e r = absurd (numbered r)
+
+-- ---- the loop of a block
+
+-- a count with one more where the mark is set
+abbrev pub tallied : Bool → ℕ → ℕ
+tallied b n = cond b (n + 1) n
+
+-- the loop of a block before sample i, whose answers so far stand in the output: what is left to do does the rest of the block
+pub record Running (F : Filter) (s₀ : F .State) (input output₀ : List Float) (s : F .State) (output : List Float) (clouded i : ℕ) : Type 0 where
+  pub within : i ≤ length input
+  pub room : length input ≤ length output
+  pub few : clouded ≤ i
+  pub good : F .check s ≡ true
+  pub state : after F s (drop i input) ≡ after F s₀ input
+  pub count : clouded + cloudedIn (answers F s (drop i input)) ≡ cloudedIn (answers F s₀ input)
+  pub places : take i output ++ written (answers F s (drop i input)) (drop i output) ≡ written (answers F s₀ input) output₀
+  pub same : length output ≡ length output₀
+
+placed-marked : (b : Bool) (y old : Float) → placed (marked b y) old ≡ y
+placed-marked true y old = refl
+placed-marked false y old = refl
+
+tallied-few : (b : Bool) (n i : ℕ) → n ≤ i → tallied b n ≤ i + 1
+tallied-few true n i h = omega arith
+tallied-few false n i h = omega arith
+
+tallied-more : (b : Bool) (y : Float) (n m : ℕ) → tallied b n + m ≡ n + (cond (isClouded (marked b y)) 1 0 + m)
+tallied-more true y n m = omega arith
+tallied-more false y n m = omega arith
+
+module _ (F : Filter) (keeps : (s : F .State) (x : Float) → F .check s ≡ true → F .check (F .next s x) ≡ true) (s₀ : F .State) (input output₀ : List Float) where
+  pub run-start : length input ≤ length output₀ → F .check s₀ ≡ true → Running F s₀ input output₀ s₀ output₀ 0 0
+  run-start h e = record {
+    within = omega arith;
+    room = h;
+    few = omega arith;
+    good = e;
+    state = refl;
+    count = rw zero-add;
+    places = refl;
+    same = refl;
+  }
+
+  -- one sample: y is its number and b its mark
+  pub run-turn : {s s′ : F .State} {output : List Float} {clouded clouded′ i : ℕ} {y : Float} {b : Bool} → i < length input
+      → y ≡ F .value s (getD input i nan) → b ≡ F .mark s (getD input i nan) → s′ ≡ F .next s (getD input i nan) → clouded′ ≡ tallied b clouded
+      → Running F s₀ input output₀ s output clouded i → Running F s₀ input output₀ s′ (set output i y) clouded′ (i + 1)
+  unfolding cloudedIn written
+  run-turn {s} {s′} {output} {clouded} {clouded′} {i} {y} {b} h ey eb es ec p =
+      let x = getD input i nan in
+      let k : i < length output = omega (arith, p .room) in
+      let d = drop-cons input i nan h in
+      let o = drop-cons output i nan k in
+      let a = answers-cons F s x (drop (suc i) input) (p .good) in
+      record {
+        within = omega arith;
+        room = rw length-set (p .room);
+        few = rw ec (tallied-few b clouded i (p .few));
+        good = rw es (keeps s x (p .good));
+        state = rw (es, add-one) (sym (after-cons F s x (drop (suc i) input) (p .good)) ∙ (rw d at (p .state)));
+        count = rw (ec, es, add-one i) (tallied-more b y clouded (cloudedIn (answers F (F .next s x) (drop (suc i) input))) ∙ (rw (d, a, ← eb, ← ey) at (p .count)));
+        places = rw (es, add-one, take-suc-set output i y k, drop-set-lt (suc i) output i y (omega arith), append-assoc) (rw (d, o, a, ← eb, ← ey, placed-marked) at (p .places));
+        same = rw length-set (p .same);
+      }
+
+  pub run-done : {s : F .State} {output : List Float} {clouded i : ℕ} → length input ≤ i → F .check s₀ ≡ true → length input ≤ length output₀
+      → Running F s₀ input output₀ s output clouded i → _≡_ {A = Block (F .State)} (record { refusal = 0; clouded = clouded; state = s; output = output }) (block F s₀ input output₀)
+  unfolding answers after cloudedIn written block
+  run-done {s} {output} {clouded} {i} h e k p =
+      let z = drop-of-length-le input {i = i} h in
+      let l : s ≡ after F s₀ input = rw z at (p .state) in
+      let m : clouded ≡ cloudedIn (answers F s₀ input) = sym (add-zero clouded) ∙ (rw z at (p .count)) in
+      let o : output ≡ written (answers F s₀ input) output₀ = sym (take-append-drop i output) ∙ (rw z at (p .places)) in
+      rw (e, le-ltb (length output₀) (length input) k, ← l, ← m, ← o)
 
 -- an order, or a number of taps, that is not refused
 pub good-order : (n most : ℕ) → orderRefused n most ≡ false → (0 < n) × (n ≤ most)

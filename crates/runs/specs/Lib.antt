@@ -1,4 +1,6 @@
--- What a step and a reset do with any record that answers samples, the refusal numbers, and the code's answer read as these definitions have it.
+-- What a step, a block and a reset do with any record that answers samples, the forgetting rule, the refusal numbers, and the code's answer read as these
+-- definitions have it.
 pub mod Refusals
 pub mod Runs
+pub mod Forgetting
 pub mod View
