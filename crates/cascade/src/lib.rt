@@ -240,24 +240,27 @@ impl Cascade {
         }
     }
 
+    // What a refused block returns.
+    fn refused_block(self, refusal: u8) -> Blocked
+        ensures { λ r. ⌜ r ≡ record { refusal = refusal; clouded = 0; cascade = self } ⌝ }
+    {
+        Blocked {
+            refusal,
+            clouded: 0,
+            cascade: self,
+        }
+    }
+
     // A block of samples, each as `update` has it: the answers in the first places of the output, later places left. An
     // output shorter than the input is refused by 5.
     pub fn block(self, input: &[f64], output: &mut [f64]) -> Blocked
         ensures { λ r. ⌜ blockView r (now (output .exit)) ≡ block (cascade binary64) (cascadeView self) (now (input .entry)) (now (output .entry)) ⌝ }
     {
         if !self.check() {
-            return Blocked {
-                refusal: runs::BAD_CASCADE,
-                clouded: 0,
-                cascade: self,
-            };
+            return self.refused_block(runs::BAD_CASCADE);
         }
         if output.len() < input.len() {
-            return Blocked {
-                refusal: runs::SHORT_OUTPUT,
-                clouded: 0,
-                cascade: self,
-            };
+            return self.refused_block(runs::SHORT_OUTPUT);
         }
         let mut cascade = self;
         let mut clouded: usize = 0;

@@ -262,24 +262,27 @@ impl TapRecord {
         }
     }
 
+    // What a refused block returns.
+    fn refused_block(self, refusal: u8) -> Blocked
+        ensures { λ r. ⌜ r ≡ record { refusal = refusal; clouded = 0; filter = self } ⌝ }
+    {
+        Blocked {
+            refusal,
+            clouded: 0,
+            filter: self,
+        }
+    }
+
     // A block of samples, each as `update` has it: the answers in the first places of the output, later places left. An
     // output shorter than the input is refused by 5.
     pub fn block(self, input: &[f64], output: &mut [f64]) -> Blocked
         ensures { λ r. ⌜ blockView r (now (output .exit)) ≡ block (fir capacity binary64) (tapsView self) (now (input .entry)) (now (output .entry)) ⌝ }
     {
         if !self.check() {
-            return Blocked {
-                refusal: runs::BAD_TAPS,
-                clouded: 0,
-                filter: self,
-            };
+            return self.refused_block(runs::BAD_TAPS);
         }
         if output.len() < input.len() {
-            return Blocked {
-                refusal: runs::SHORT_OUTPUT,
-                clouded: 0,
-                filter: self,
-            };
+            return self.refused_block(runs::SHORT_OUTPUT);
         }
         let mut filter = self;
         let mut clouded: usize = 0;

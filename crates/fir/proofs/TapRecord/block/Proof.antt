@@ -23,11 +23,19 @@ abbrev μ-loop : tie.MeasureT-loop
 check-requires : tie.Need-check-requires Inv-loop μ-loop
 check-requires c κs = search needs
 
+refused-block-requires : tie.Need-refused-block-requires Inv-loop μ-loop
+refused-block-requires c κs = search needs
+
 returns : tie.Need-returns Inv-loop μ-loop
-returns c = block-refused (fir capacity binary64) _ _ _ (sym (c .before .check .ensures) ∙ not-true _ (c .if1 .taken))
+returns c = rw (c .refused-block .ensures) (block-refused (fir capacity binary64) _ _ _ (sym (c .before .before .check .ensures) ∙ not-true _ (c .before .if1 .taken)))
+
+refused-block-requires-2 : tie.Need-refused-block-requires-2 Inv-loop μ-loop
+refused-block-requires-2 c κs = search needs
 
 returns-2 : tie.Need-returns-2 Inv-loop μ-loop
-returns-2 c = block-short (fir capacity binary64) _ _ _ (sym (c .before .before .check .ensures) ∙ not-false _ (c .before .if1 .left)) (c .if2 .taken)
+returns-2 c =
+    let e = c .before .before in
+    rw (c .refused-block2 .ensures) (block-short (fir capacity binary64) _ _ _ (sym (e .before .check .ensures) ∙ not-false _ (e .if1 .left)) (c .before .if2 .taken))
 
 loop-holds : tie.Need-loop-holds Inv-loop μ-loop
 loop-holds c = run-start (fir capacity binary64) (check-next capacity) _ _ _ (c .if2 .left) (sym (c .before .before .check .ensures) ∙ not-false _ (c .before .if1 .left))
@@ -78,7 +86,9 @@ block-spec =
     Inv-loop
     μ-loop
     check-requires
+    refused-block-requires
     returns
+    refused-block-requires-2
     returns-2
     loop-holds
     mul-pass
