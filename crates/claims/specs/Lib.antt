@@ -2,4 +2,5 @@
 pub mod Ieee
 pub mod Elementary
 pub mod Fresh
+pub mod Forgetting
 pub mod Sheet

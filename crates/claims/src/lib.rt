@@ -4,7 +4,10 @@ ghost use mathlib.Core.Path.{_≡_};
 ghost use Rattle.claims.specs.Ieee.{MeetsIeee754, Determined, OverflowsAtMidpoint};
 ghost use Rattle.claims.specs.Elementary.{NearestIsNearest, LnSplits, constantsOf};
 ghost use Rattle.claims.specs.Fresh.{AcceptedIsFresh};
+ghost use Rattle.claims.specs.Forgetting.{CascadeRule, FirRule};
 ghost use Rattle.claims.specs.Sheet.{ReleaseSheet};
+use cascade::Cascade;
+use fir::TapRecord;
 
 // Demand 2: "Arithmetic and square root meet IEEE 754 by proof."
 pub fn arithmetic_meets_ieee_754()
@@ -55,12 +58,22 @@ pub fn constants_have_their_bits() -> Constants
     }
 }
 
-// What an accepted design or set of ready-made taps returns is fresh.
+// Demand 3, the forgetting rule, of every list of calls on every cascade.
+pub fn cascade_forgets(start: Cascade)
+    ensures { λ _. ⌜ CascadeRule start ⌝ }
+{}
+
+// The same of every tap record.
+pub fn fir_forgets(start: TapRecord)
+    ensures { λ _. ⌜ FirRule start ⌝ }
+{}
+
+// What an accepted design, set of ready-made taps or reset returns is fresh.
 pub fn accepted_designs_are_fresh()
     ensures { λ _. ⌜ AcceptedIsFresh ⌝ }
 {}
 
-// The calculations on the release sheet, rows 1 to 12.
+// The fourteen calculations on the release sheet.
 pub fn release_sheet()
     ensures { λ _. ⌜ ReleaseSheet ⌝ }
 {}

@@ -1,0 +1,12 @@
+-- `claims::cascade_forgets` meets its contract. Assumes nothing.
+use lib.Ieee.{binary64}
+use Rattle.cascade.specs.View.{cascadeView}
+use Rattle.cascade.proofs.Forgetting.{forgets}
+use Rattle.claims.proofs.cascade_forgets.Statement.{statement}
+use Rattle.claims.proofs.cascade_forgets.Tie as tie
+
+returns : tie.Need-returns
+returns c = record { of = forgets binary64 (cascadeView (c .args .start)) }
+
+pub cascade-forgets-spec : {M : Type 1} → statement M
+cascade-forgets-spec = tie.close (tie.spec returns)

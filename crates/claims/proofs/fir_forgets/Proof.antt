@@ -1,0 +1,18 @@
+-- `claims::fir_forgets` meets its contract: the arrays of a tap record have 64 places. Assumes nothing.
+use mathlib.Core.Path.{_≡_}
+use lib.ListN.{length}
+use lib.Ieee.{binary64}
+use borrow.Author.Needs.{needs}
+use Rattle.fir.specs.View.{capacity, tapsView}
+use Rattle.fir.proofs.Forgetting.{forgets}
+use Rattle.claims.proofs.fir_forgets.Statement.{statement}
+use Rattle.claims.proofs.fir_forgets.Tie as tie
+
+returns : tie.Need-returns
+returns c =
+    let taps : length (c .args .start .taps) ≡ capacity = search needs in
+    let samples : length (c .args .start .samples) ≡ capacity = search needs in
+    record { of = forgets capacity binary64 (tapsView (c .args .start)) taps samples }
+
+pub fir-forgets-spec : {M : Type 1} → statement M
+fir-forgets-spec = tie.close (tie.spec returns)
