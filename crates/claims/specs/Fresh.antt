@@ -8,8 +8,8 @@ use Rattle.fir.specs.Fir.{fromCoeffs, FreshTaps}
 use Rattle.fir.specs.View.{capacity}
 use Rattle.designs.specs.LowPass.{butterworthLp, butterworthHp, chebyshev1Lp, chebyshev2Lp}
 use Rattle.designs.specs.BandPass.{butterworthBp}
-use Rattle.designs.specs.Fir.{firLp}
-use Rattle.designs.specs.declared.fir_lp.WindowType.{WindowType}
+use Rattle.windows.specs.Fir.{firLp}
+use Rattle.windows.specs.declared.WindowType.{WindowType}
 
 pub record AcceptedIsFresh : Type 0 where
   pub lowPass : (n : ℕ) (cutoff rate : Float) → butterworthLp n cutoff rate .refusal ≡ 0 → FreshCascade (butterworthLp n cutoff rate .cascade)

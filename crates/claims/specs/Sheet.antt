@@ -11,9 +11,7 @@ use Rattle.sections.specs.FirstOrder.{FirstPart, firstOut, firstNext}
 use Rattle.poles.specs.Butterworth.{lpBiquad, hpBiquad, lpFirst, hpFirst}
 use Rattle.fir.specs.Fir.{TapsRecord, fir, fromCoeffs}
 use Rattle.fir.specs.View.{capacity}
-use Rattle.designs.specs.LowPass.{validateParams}
-use Rattle.designs.specs.BandPass.{validateBand}
-use Rattle.designs.specs.Fir.{validateFir}
+use Rattle.checks.specs.Checks.{validateParams, validateBand, validateFir}
 
 abbrev pub patterns : List Float → List ℕ
 patterns xs = map (toBits binary64) xs

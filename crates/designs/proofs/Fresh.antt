@@ -1,4 +1,4 @@
--- Every accepted design is fresh. Assumes nothing.
+-- Every accepted cascade design is fresh. Assumes nothing.
 use mathlib.Core.Path.{_≡_, refl, sym, ap₂}
 use mathlib.Core.Bool.{Bool, true, false, cond, _||_}
 use mathlib.Core.List.{List, [], _∷_, _++_, map}
@@ -12,25 +12,20 @@ use Rattle.sections.specs.FirstOrder.{blankFirst, clearedFirst}
 use Rattle.cascade.specs.Cascade.{CascadeRecord, checkCascade, clearedCascade, FreshCascade}
 use Rattle.scalar.specs.Operators.{_⊖_, _⊗_}
 use Rattle.scalar.specs.Constants.{plusZero, half}
-use Rattle.designs.specs.Design.{refusedDesign, accepted, unlessRefused, placed, upTo}
+use Rattle.checks.specs.Checks.{validateParams, validateChebyshev, validateBand}
+use Rattle.checks.specs.Lists.{upTo}
+use Rattle.checks.proofs.Laws.{good-params, good-chebyshev, good-band}
+use Rattle.designs.specs.Design.{refusedDesign, accepted, unlessRefused, placed}
 use Rattle.poles.specs.Butterworth.{lpBiquad, hpBiquad, lpFirst, hpFirst}
 use Rattle.poles.specs.BandPass.{bandBiquad, bpBiquad, bpPair, bpReal}
 use Rattle.poles.specs.Chebyshev.{cheb1Biquad, cheb2Biquad, chebFirst}
 use Rattle.designs.specs.Butterworth.{warped, lpPair, hpPair}
 use Rattle.designs.specs.Chebyshev.{cheb1Pair, cheb2Pair}
 use Rattle.designs.specs.Prototype.{pairOf, realPart, firstOf, prototypeCascade}
-use Rattle.designs.specs.LowPass.{validateParams, validateChebyshev, butterworthLp, butterworthHp, chebyshev1Lp, chebyshev2Lp}
-use Rattle.designs.specs.BandPass.{bpPairOf, bpUpTo, bpSections, bpCascade, validateBand, butterworthBp}
+use Rattle.designs.specs.LowPass.{butterworthLp, butterworthHp, chebyshev1Lp, chebyshev2Lp}
+use Rattle.designs.specs.BandPass.{bpPairOf, bpUpTo, bpSections, bpCascade, butterworthBp}
 use Rattle.designs.specs.declared.prototype.Prototype.{Prototype}
 use Rattle.designs.specs.declared.prototype.Prototype.the-variants.{ButterworthLow, ButterworthHigh, ChebyshevI, ChebyshevII}
-use Rattle.fir.specs.Fir.{Made, blankTaps, holding, FreshTaps}
-use Rattle.fir.specs.View.{capacity}
-use Rattle.fir.proofs.Fresh.{holding-fresh}
-use Rattle.designs.specs.Fir.{codeOf, firTaps, validateFir, firLp}
-use Rattle.designs.specs.declared.fir_lp.WindowType.{WindowType}
-use Rattle.designs.specs.declared.fir_lp.WindowType.the-variants.{Rectangular, Hamming, Hanning, Blackman}
-use Rattle.designs.proofs.Taps.{taps-length}
-use Rattle.designs.proofs.Laws.{good-params, good-chebyshev, good-band, good-fir}
 
 -- a section that carries +0, and a list of such
 abbrev Clear : Biquad → Type 0
@@ -162,24 +157,3 @@ unfolding butterworthBp
 bandpass-fresh n low high rate =
     accepted-fresh (validateBand low high rate n) (bpCascade n (warped low rate) (warped high rate))
     (λ (e : validateBand low high rate n ≡ 0). let p = good-band low high rate n e in band-fresh n (warped low rate) (warped high rate) (p .0) (p .1))
-
--- ---- the FIR low pass
-code-in : (w : WindowType) → codeOf w ≤ 4
-code-in Rectangular = omega arith
-code-in Hamming = omega arith
-code-in Hanning = omega arith
-code-in Blackman = omega arith
-
-pub fir-fresh : (n : ℕ) (cutoff : Float) (w : WindowType) → firLp n cutoff w .refusal ≡ 0 → FreshTaps capacity (firLp n cutoff w .filter)
-unfolding firLp
-fir-fresh n cutoff w = go (eqb (validateFir n cutoff) 0) refl
-  where
-    made : Bool → Made
-    made b = cond b (record { refusal = 0; filter = holding capacity (firTaps w n cutoff) (codeOf w) }) (record { refusal = validateFir n cutoff; filter = blankTaps capacity })
-
-    go : (b : Bool) → eqb (validateFir n cutoff) 0 ≡ b → made b .refusal ≡ 0 → FreshTaps capacity (made b .filter)
-    go true e r =
-        let p = good-fir n cutoff (eqb-true (validateFir n cutoff) 0 e) in
-        let l = taps-length w n cutoff in
-        holding-fresh capacity (firTaps w n cutoff) (codeOf w) (omega (arith, l, p)) (omega (arith, l, p)) (code-in w)
-    go false e r = absurd (eqb-false (validateFir n cutoff) 0 e r)

@@ -8,7 +8,9 @@ use lib.ListN.{length, set, length-append}
 use lib.Ieee.{Float}
 use Rattle.sections.specs.Section.{Biquad, blankBiquad}
 use Rattle.cascade.proofs.Loops.{map-set}
-use Rattle.designs.specs.Design.{placed, upTo}
+use Rattle.checks.specs.Lists.{upTo}
+use Rattle.checks.proofs.Lists.{upTo-length}
+use Rattle.designs.specs.Design.{placed}
 use Rattle.designs.specs.BandPass.{bpUpTo, bpPairOf}
 
 -- the next section goes to the first blank place
@@ -32,11 +34,6 @@ unfolding placed
 no-places = refl
 
 -- ---- one section a turn
-pub upTo-length : {A : Type 0} (g : ℕ → A) (n : ℕ) → length (upTo g n) ≡ n
-unfolding upTo
-upTo-length g zero = refl
-upTo-length g (suc n) = length-append (upTo g n) (g n ∷ []) ∙ ap (λ (k : ℕ). k + 1) (upTo-length g n) ∙ add-one n
-
 pub upTo-turn : {A : Type 0} (view : A → Biquad) (kept : List A) (g : ℕ → Biquad) (m : ℕ) (a : A)
     → map view kept ≡ placed 4 (upTo g m) → m < 4 → view a ≡ g m → map view (set kept m a) ≡ placed 4 (upTo g (m + 1))
 upTo-turn view kept g m a e h v = rw (add-one) (place view kept 4 m (upTo g m) a (g m) e (sym (upTo-length g m)) h v ∙ ap (placed 4) (more m))

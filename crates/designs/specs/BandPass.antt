@@ -4,15 +4,13 @@ use mathlib.Core.Bool.{false, cond}
 use mathlib.Core.List.{List, [], _∷_, _++_}
 use lib.Dec.{eqb}
 use lib.Ieee.{Float}
-use Rattle.runs.specs.Refusals.{Accepted, InvalidOrder, InvalidFrequency, InvalidSampleRate}
 use Rattle.scalar.specs.Operators.{_⊖_, _⊗_}
 use Rattle.scalar.specs.Trigonometric.{sinOf, cosOf}
 use Rattle.sections.specs.Section.{Biquad}
 use Rattle.sections.specs.FirstOrder.{blankFirst}
 use Rattle.cascade.specs.Cascade.{CascadeRecord}
 use Rattle.poles.specs.BandPass.{BiquadPair, bpPair, bpReal}
-use Rattle.runs.specs.Refusals.{orderRefused}
-use Rattle.designs.specs.Checks.{rateRefused, bandRefused}
+use Rattle.checks.specs.Checks.{validateBand}
 use Rattle.designs.specs.Design.{DesignRecord, unlessRefused, placed}
 use Rattle.designs.specs.Butterworth.{warped, angleOf}
 
@@ -37,12 +35,6 @@ bpCascade n wl wh = record {
   clouded = false;
 }
 
--- ---- the design: checks 1, 2, 3
-unfoldable pub validateBand : Float → Float → Float → ℕ → ℕ
-validateBand low high rate n =
-    cond (orderRefused n 4) InvalidOrder
-    (cond (bandRefused low high rate) InvalidFrequency
-    (cond (rateRefused rate) InvalidSampleRate Accepted))
-
+-- ---- the design
 unfoldable pub butterworthBp : ℕ → Float → Float → Float → DesignRecord
 butterworthBp n low high rate = unlessRefused (validateBand low high rate n) (bpCascade n (warped low rate) (warped high rate))

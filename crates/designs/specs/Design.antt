@@ -1,7 +1,7 @@
 -- What a cascade design returns: its refusal number, or 0 and the cascade. Definitions only.
 use Prim.Native.Nat.{ℕ, zero, suc}
 use mathlib.Core.Bool.{cond}
-use mathlib.Core.List.{List, [], _∷_, _++_}
+use mathlib.Core.List.{List, [], _∷_}
 use lib.Dec.{eqb}
 use Rattle.runs.specs.Refusals.{Accepted}
 use Rattle.sections.specs.Section.{Biquad, blankBiquad}
@@ -27,8 +27,3 @@ unfoldable pub placed : ℕ → List Biquad → List Biquad
 placed zero ss = []
 placed (suc p) [] = blankBiquad ∷ placed p []
 placed (suc p) (s ∷ ss) = s ∷ placed p ss
-
--- g 0, g 1, to g (n - 1)
-unfoldable pub upTo : {A : Type 0} → (ℕ → A) → ℕ → List A
-upTo g zero = []
-upTo g (suc n) = upTo g n ++ g n ∷ []

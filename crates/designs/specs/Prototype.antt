@@ -8,7 +8,8 @@ use Rattle.scalar.specs.Constants.{one}
 use Rattle.sections.specs.Section.{Biquad}
 use Rattle.sections.specs.FirstOrder.{FirstPart, blankFirst}
 use Rattle.cascade.specs.Cascade.{CascadeRecord}
-use Rattle.designs.specs.Design.{placed, upTo}
+use Rattle.checks.specs.Lists.{upTo}
+use Rattle.designs.specs.Design.{placed}
 use Rattle.poles.specs.Butterworth.{lpFirst, hpFirst}
 use Rattle.poles.specs.Chebyshev.{chebFirst}
 use Rattle.designs.specs.Butterworth.{lpPair, hpPair}

@@ -1,18 +1,12 @@
 -- The code's types, read field by field. Definitions only.
 use Rattle.cascade.specs.View.{cascadeView}
-use Rattle.fir.specs.View.{tapsView}
 use Rattle.designs.specs.Design.{DesignRecord}
-use Rattle.designs.specs.Request.{DesignedRecord}
 use Rattle.designs.specs.Chebyshev.{PolePairRecord}
-use Rattle.designs.specs.declared.checks.Design.{Design}
+use Rattle.designs.specs.declared.returned.Design.{Design}
 use Rattle.designs.specs.declared.chebyshev.PolePair.{PolePair}
-use Rattle.designs.specs.declared.request.Designed.{Designed}
 
 abbrev pub designView : Design → DesignRecord
 designView d = record { refusal = d .refusal; cascade = cascadeView (d .cascade) }
 
 abbrev pub polePairView : PolePair → PolePairRecord
 polePairView p = record { sigma = p .sigma; omega = p .«omega_im»; cosTheta = p .«cos_theta» }
-
-abbrev pub designedView : Designed → DesignedRecord
-designedView d = record { refusal = d .refusal; cascade = cascadeView (d .cascade); filter = tapsView (d .filter) }

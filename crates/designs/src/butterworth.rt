@@ -1,5 +1,5 @@
-// 000 butterworth.rs: the Butterworth low pass, high pass and band pass. Its pole formulas stand in the crate poles, and
-// its sections in the crate sections.
+// 000 butterworth.rs: the Butterworth low pass, high pass and band pass. Its checks stand in the crate checks, its pole
+// formulas in the crate poles, and its sections in the crate sections.
 ghost use mathlib.Core.Path.{_≡_};
 ghost use mathlib.Core.List.{map};
 ghost use Prim.Native.Nat.{_<_, _≤_, _/_};
@@ -8,27 +8,20 @@ ghost use Rattle.cascade.specs.View.{cascadeView};
 ghost use Rattle.poles.specs.View.{pairView};
 ghost use Rattle.designs.specs.Design.{placed};
 ghost use Rattle.designs.specs.Butterworth.{angleOf, warped, lpPair, hpPair};
-ghost use Rattle.designs.specs.LowPass.{validateParams, butterworthLp, butterworthHp};
-ghost use Rattle.designs.specs.BandPass.{bpPairOf, bpUpTo, bpSections, bpCascade, validateBand, butterworthBp};
+ghost use Rattle.designs.specs.LowPass.{butterworthLp, butterworthHp};
+ghost use Rattle.designs.specs.BandPass.{bpPairOf, bpUpTo, bpSections, bpCascade, butterworthBp};
 ghost use Rattle.designs.specs.View.{designView};
-use super::checks::Design;
-use super::checks::band_refused;
-use super::checks::cutoff_refused;
-use super::checks::not_positive;
-use super::checks::order_refused;
-use super::checks::refused;
 use super::prototype::Prototype;
 use super::prototype::design_from_prototype;
+use super::returned::Design;
+use super::returned::refused;
 use cascade::Cascade;
+use checks::validate_band;
+use checks::validate_params;
 use poles::SectionPair;
 use scalar::PI;
 use sections::FirstOrder;
 use sections::Section;
-
-// The largest orders.
-const MAX_ORDER: usize = 8;
-
-const MAX_BAND_ORDER: usize = 4;
 
 // The angle of pole pair m: PI × ((2(m + 1) + N − 1)/(2N)).
 fn angle(order: usize, m: usize) -> f64
@@ -65,22 +58,6 @@ pub(crate) fn hp_section(order: usize, m: usize, k: f64) -> Section
     let sigma = scalar::cos(a);
     let omega_im = scalar::sin(a);
     poles::hp_biquad_from_pole(sigma, omega_im, k)
-}
-
-// The checks of the low-pass, high-pass and Chebyshev designs, in the order 1, 3, 2: 0, or the refusal number.
-pub fn validate_params(cutoff: f64, sample_rate: f64, order: usize) -> u8
-    ensures { λ r. ⌜ r ≡ validateParams cutoff «sample_rate» order ⌝ }
-{
-    if order_refused(order, MAX_ORDER) {
-        return runs::INVALID_ORDER;
-    }
-    if not_positive(sample_rate) {
-        return runs::INVALID_SAMPLE_RATE;
-    }
-    if cutoff_refused(cutoff, sample_rate * 0.5) {
-        return runs::INVALID_FREQUENCY;
-    }
-    0
 }
 
 // A low pass of order 1 to 8.
@@ -161,22 +138,6 @@ fn bp_cascade(order: usize, omega_l: f64, omega_h: f64) -> Cascade
         has_first: false,
         clouded: false,
     }
-}
-
-// The checks of the band pass, in the order 1, 2, 3: 0, or the refusal number.
-pub(crate) fn validate_band(low: f64, high: f64, sample_rate: f64, order: usize) -> u8
-    ensures { λ r. ⌜ r ≡ validateBand low high «sample_rate» order ⌝ }
-{
-    if order_refused(order, MAX_BAND_ORDER) {
-        return runs::INVALID_ORDER;
-    }
-    if band_refused(low, high, sample_rate) {
-        return runs::INVALID_FREQUENCY;
-    }
-    if not_positive(sample_rate) {
-        return runs::INVALID_SAMPLE_RATE;
-    }
-    0
 }
 
 // A band pass of order 1 to 4: as many sections.

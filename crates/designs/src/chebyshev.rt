@@ -1,18 +1,17 @@
-// 001 chebyshev.rs: the Chebyshev low passes of type I and type II. Its arcsinh is `scalar::arcsinh`, its validate_params
-// that of butterworth.rt, its pole formulas stand in the crate poles, and its sections in the crate sections.
+// 001 chebyshev.rs: the Chebyshev low passes of type I and type II. Its arcsinh is `scalar::arcsinh`, its checks stand in
+// the crate checks, its pole formulas in the crate poles, and its sections in the crate sections.
 ghost use mathlib.Core.Path.{_≡_};
 ghost use Prim.Native.Nat.{_<_, _≤_};
 ghost use Rattle.sections.specs.View.{sectionView};
 ghost use Rattle.designs.specs.Chebyshev.{thetaOf, poleOf, cheb1Pair, cheb2Pair, epsilonOf, cheb1Prototype, cheb2Prototype};
-ghost use Rattle.designs.specs.LowPass.{validateChebyshev, chebyshev1Lp, chebyshev2Lp};
+ghost use Rattle.designs.specs.LowPass.{chebyshev1Lp, chebyshev2Lp};
 ghost use Rattle.designs.specs.View.{polePairView, designView};
-use super::butterworth::validate_params;
 use super::butterworth::warp;
-use super::checks::Design;
-use super::checks::not_positive;
-use super::checks::refused;
 use super::prototype::Prototype;
 use super::prototype::design_from_prototype;
+use super::returned::Design;
+use super::returned::refused;
+use checks::validate_chebyshev;
 use scalar::PI;
 use sections::Section;
 
@@ -96,20 +95,6 @@ fn chebyshev2_prototype(order: usize, stopband_db: f64, k: f64) -> Prototype
         cosh_a: scalar::cosh(a),
         k,
     }
-}
-
-// The checks, in the order 1, 3, 2, 4: 0, or the refusal number.
-pub(crate) fn validate_chebyshev(cutoff: f64, db: f64, sample_rate: f64, order: usize) -> u8
-    ensures { λ r. ⌜ r ≡ validateChebyshev cutoff db «sample_rate» order ⌝ }
-{
-    let refusal = validate_params(cutoff, sample_rate, order);
-    if refusal != 0 {
-        return refusal;
-    }
-    if not_positive(db) {
-        return runs::INVALID_RIPPLE;
-    }
-    0
 }
 
 // A type I low pass of order 1 to 8, with its ripple in decibels.

@@ -7,7 +7,6 @@ mod fir_table;
 mod table;
 
 use cascade::Cascade;
-use designs::WindowType;
 use fir::TapRecord;
 use fir_table::FIR_COUNT;
 use fir_table::FIR_WORDS;
@@ -15,6 +14,7 @@ use libc::STDOUT_FILENO;
 use runs::Answer;
 use table::COUNT;
 use table::WORDS;
+use windows::WindowType;
 
 // How many words both tables have.
 const TOTAL: usize = COUNT + FIR_COUNT;
@@ -267,7 +267,7 @@ fn fir_request(at: usize, p: Place, cascade: Cascade, filter: TapRecord) -> Turn
     match kind {
         8 => made(
             p,
-            designs::design_fir_lp(order, a, window(word(at + 3))),
+            windows::design_fir_lp(order, a, window(word(at + 3))),
             cascade,
         ),
         9 => filtered(p, filter.update(a), cascade),

@@ -1,7 +1,8 @@
 -- `claims::accepted_designs_are_fresh` meets its contract. Assumes nothing.
 use Rattle.fir.specs.View.{capacity}
 use Rattle.fir.proofs.Fresh.{ready-made-fresh}
-use Rattle.designs.proofs.Fresh.{butterworth-lp-fresh, butterworth-hp-fresh, chebyshev1-fresh, chebyshev2-fresh, bandpass-fresh, fir-fresh}
+use Rattle.designs.proofs.Fresh.{butterworth-lp-fresh, butterworth-hp-fresh, chebyshev1-fresh, chebyshev2-fresh, bandpass-fresh}
+use Rattle.windows.proofs.Fresh.{fir-fresh}
 use Rattle.claims.proofs.accepted_designs_are_fresh.Statement.{statement}
 use Rattle.claims.proofs.accepted_designs_are_fresh.Tie as tie
 

@@ -2,13 +2,10 @@
 use mathlib.Core.Path.{refl}
 use lib.Ieee.{add, sub, mul, div, neg, lt, le, isNan, ofInt, ofBits, toBits}
 use Rattle.runs.specs.Refusals.{orderRefused}
-use Rattle.designs.specs.Checks.{notPositive, cutoffRefused, bandRefused}
+use Rattle.checks.specs.Checks.{notPositive, cutoffRefused, bandRefused, validateParams, validateBand, validateFir}
 use Rattle.runs.specs.Runs.{step}
 use Rattle.fir.specs.Fir.{pushed, next, heldOf, notAllFinite, clouding, sum, value, mark, checkTaps, holding, fromCoeffs}
 use Rattle.poles.specs.Butterworth.{denominatorOf, lpBiquad, hpBiquad, lpFirst, hpFirst}
-use Rattle.designs.specs.LowPass.{validateParams}
-use Rattle.designs.specs.BandPass.{validateBand}
-use Rattle.designs.specs.Fir.{validateFir}
 use Rattle.claims.proofs.release_sheet.Statement.{statement}
 use Rattle.claims.proofs.release_sheet.Tie as tie
 

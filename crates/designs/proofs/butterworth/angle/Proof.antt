@@ -1,21 +1,12 @@
 -- `designs::butterworth::angle` meets its contract. Assumes nothing.
 use mathlib.Core.Path.{refl}
-use Prim.Native.Nat.{ℕ, _+_, _-_, _*_, _^_, _≤_}
+use Prim.Native.Nat.{_+_, _-_, _*_}
 use native.Mathlib.Omega.{arith}
-use lib.Dec.{T, le→leb}
-use lib.IntN.{pos}
-use lib.Ieee.{binary64, inFloat}
+use Rattle.checks.proofs.Laws.{small-float}
 use Rattle.designs.specs.Butterworth.{angleOf}
-use lib.Dec.{le→leb}
-use lib.Ieee.{inFloat}
-use mathlib.Core.Path.{refl}
 use borrow.Author.Needs.{needs}
 use Rattle.designs.proofs.butterworth.angle.Statement.{statement}
 use Rattle.designs.proofs.butterworth.angle.Tie as tie
-
-small : (n : ℕ) → n ≤ 100 → T (inFloat binary64 (pos n))
-unfolding inFloat
-small n h = le→leb n (2 ^ 53) (omega arith)
 
 add-result : tie.Need-add-result
 add-result c = search needs
@@ -30,13 +21,13 @@ sub-result : tie.Need-sub-result
 sub-result c = search needs
 
 int-to-float-result : tie.Need-int-to-float-result
-int-to-float-result c = let a = c .before .args in let h = c .before .pre .1 .0 in let k = c .before .pre .1 .1 in small (2 * (a .m + 1) + a .order - 1) (omega arith)
+int-to-float-result c = let a = c .before .args in let h = c .before .pre .1 .0 in let k = c .before .pre .1 .1 in small-float (2 * (a .m + 1) + a .order - 1) (omega arith)
 
 mul-result-2 : tie.Need-mul-result-2
 mul-result-2 c = search needs
 
 int-to-float-result-2 : tie.Need-int-to-float-result-2
-int-to-float-result-2 c = let a = c .before .before .args in let h = c .before .before .pre .1 .0 in small (2 * a .order) (omega arith)
+int-to-float-result-2 c = let a = c .before .before .args in let h = c .before .before .pre .1 .0 in small-float (2 * a .order) (omega arith)
 
 returns : tie.Need-returns
 unfolding angleOf

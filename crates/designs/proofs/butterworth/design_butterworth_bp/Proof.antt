@@ -2,7 +2,8 @@
 use mathlib.Core.Path.{_∙_, sym, ap, ap₂}
 use Rattle.designs.specs.Design.{accepted, refusedDesign}
 use Rattle.designs.specs.BandPass.{bpCascade, butterworthBp}
-use Rattle.designs.proofs.Laws.{good-band, is-refused, is-accepted}
+use Rattle.checks.proofs.Laws.{good-band}
+use Rattle.designs.proofs.Laws.{is-refused, is-accepted}
 use borrow.Author.Needs.{needs}
 use Rattle.designs.proofs.butterworth.design_butterworth_bp.Statement.{statement}
 use Rattle.designs.proofs.butterworth.design_butterworth_bp.Tie as tie

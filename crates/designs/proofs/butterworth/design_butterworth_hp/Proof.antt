@@ -4,7 +4,8 @@ use Rattle.designs.specs.Design.{accepted, refusedDesign}
 use Rattle.designs.specs.Prototype.{prototypeCascade}
 use Rattle.designs.specs.declared.prototype.Prototype.the-variants.{ButterworthHigh}
 use Rattle.designs.specs.LowPass.{butterworthHp}
-use Rattle.designs.proofs.Laws.{good-params, is-refused, is-accepted}
+use Rattle.checks.proofs.Laws.{good-params}
+use Rattle.designs.proofs.Laws.{is-refused, is-accepted}
 use borrow.Author.Needs.{needs}
 use Rattle.designs.proofs.butterworth.design_butterworth_hp.Statement.{statement}
 use Rattle.designs.proofs.butterworth.design_butterworth_hp.Tie as tie

@@ -1,7 +1,7 @@
 -- `designs::chebyshev::chebyshev2_prototype` meets its contract. Assumes nothing.
 use native.Mathlib.Omega.{arith}
 use Rattle.designs.specs.Chebyshev.{cheb2Prototype}
-use Rattle.designs.proofs.Laws.{small-float}
+use Rattle.checks.proofs.Laws.{small-float}
 use borrow.Author.Needs.{needs}
 use Rattle.designs.proofs.chebyshev.chebyshev2_prototype.Statement.{statement}
 use Rattle.designs.proofs.chebyshev.chebyshev2_prototype.Tie as tie

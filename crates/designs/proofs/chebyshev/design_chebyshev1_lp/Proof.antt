@@ -4,7 +4,8 @@ use Rattle.designs.specs.Design.{accepted, refusedDesign}
 use Rattle.designs.specs.Chebyshev.{cheb1Prototype}
 use Rattle.designs.specs.Prototype.{prototypeCascade}
 use Rattle.designs.specs.LowPass.{chebyshev1Lp}
-use Rattle.designs.proofs.Laws.{good-chebyshev, is-refused, is-accepted}
+use Rattle.checks.proofs.Laws.{good-chebyshev}
+use Rattle.designs.proofs.Laws.{is-refused, is-accepted}
 use borrow.Author.Needs.{needs}
 use Rattle.designs.proofs.chebyshev.design_chebyshev1_lp.Statement.{statement}
 use Rattle.designs.proofs.chebyshev.design_chebyshev1_lp.Tie as tie

@@ -3,7 +3,7 @@ use mathlib.Core.Path.{refl}
 use Prim.Native.Nat.{_+_, _*_}
 use native.Mathlib.Omega.{arith}
 use Rattle.designs.specs.Chebyshev.{thetaOf}
-use Rattle.designs.proofs.Laws.{small-float}
+use Rattle.checks.proofs.Laws.{small-float}
 use borrow.Author.Needs.{needs}
 use Rattle.designs.proofs.chebyshev.theta.Statement.{statement}
 use Rattle.designs.proofs.chebyshev.theta.Tie as tie

@@ -6,7 +6,8 @@ use Prim.Native.Nat.{ℕ, _≤_, _-_, _/_}
 use native.Mathlib.Omega.{arith}
 use borrow.Author.Needs.{needs}
 use Rattle.sections.specs.View.{sectionView}
-use Rattle.designs.specs.Design.{placed, upTo}
+use Rattle.checks.specs.Lists.{upTo}
+use Rattle.designs.specs.Design.{placed}
 use Rattle.designs.specs.Prototype.{pairOf}
 use Rattle.designs.proofs.Places.{upTo-none, upTo-turn}
 use Rattle.designs.proofs.prototype.sections_from_pairs.Statement.{statement}

@@ -1,0 +1,52 @@
+-- `windows::design_fir_lp` meets its contract. Assumes nothing.
+use mathlib.Core.Path.{sym, ap, _∙_}
+use Rattle.fir.specs.Fir.{TapsRecord}
+use Rattle.fir.specs.View.{capacity}
+use Rattle.checks.proofs.Laws.{good-fir}
+use Rattle.windows.proofs.Taps.{taps-done, fir-refused, fir-accepted}
+use borrow.Author.Needs.{needs}
+use Rattle.windows.proofs.design_fir_lp.Statement.{statement}
+use Rattle.windows.proofs.design_fir_lp.Tie as tie
+
+validate-fir-requires : tie.Need-validate-fir-requires
+validate-fir-requires c κs = search needs
+
+blank-requires : tie.Need-blank-requires
+blank-requires c κs = search needs
+
+returns : tie.Need-returns
+returns c = let b = c .before in
+    let v = b .before .validate-fir in
+    fir-refused _ _ _ (v .ensures) (c .if1 .taken) (b .blank .ensures)
+
+windowed-requires : tie.Need-windowed-requires
+windowed-requires c κs = let e = c .before in
+    let s = e .before .before .before in
+    good-fir (s .args .taps) (s .args .cutoff) (sym (e .before .before .validate-fir .ensures) ∙ e .if1 .left)
+
+normalised-requires : tie.Need-normalised-requires
+normalised-requires c κs = let e = c .before .before in
+    let s = e .before .before .before in
+    good-fir (s .args .taps) (s .args .cutoff) (sym (e .before .before .validate-fir .ensures) ∙ e .if1 .left) .1
+
+window-code-requires : tie.Need-window-code-requires
+window-code-requires c κs = search needs
+
+returns-2 : tie.Need-returns-2
+returns-2 c = let n = c .before in
+    let e = n .before .before .before in
+    let a = e .before .before .before .args in
+    fir-accepted (a .taps) (a .cutoff) (a .window) (e .before .before .validate-fir .ensures) (e .if1 .left) (ap (λ (r : TapsRecord). r .samples) (e .before .blank .ensures))
+    (taps-done (a .window) (a .taps) capacity (a .cutoff) (n .before .windowed .ensures) (n .normalised .ensures)) (c .window-code .ensures)
+
+pub design-fir-lp-spec : {M : Type 1} → statement M
+design-fir-lp-spec =
+    tie.close
+    (tie.spec
+    validate-fir-requires
+    blank-requires
+    returns
+    windowed-requires
+    normalised-requires
+    window-code-requires
+    returns-2)

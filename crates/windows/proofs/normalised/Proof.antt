@@ -1,0 +1,29 @@
+-- `windows::normalised` meets its contract. Assumes nothing.
+use mathlib.Core.Path.{sym, ap, _∙_}
+use lib.ListN.{take-append-drop}
+use Rattle.windows.specs.Fir.{normalisedBy}
+use borrow.Author.Needs.{needs}
+use Rattle.windows.proofs.normalised.Statement.{statement}
+use Rattle.windows.proofs.normalised.Tie as tie
+
+sum-of-requires : tie.Need-sum-of-requires
+sum-of-requires c κs = search needs
+
+abs-requires : tie.Need-abs-requires
+abs-requires c κs = search needs
+
+divided-requires : tie.Need-divided-requires
+divided-requires c κs = search needs
+
+returns : tie.Need-returns
+unfolding normalisedBy
+returns c = let t = c .before in
+    rw (← t .before .before .sum-of .ensures, ← t .before .abs .ensures, t .if1 .taken) (c .divided .ensures)
+
+returns-2 : tie.Need-returns-2
+unfolding normalisedBy
+returns-2 c = rw (← c .before .before .sum-of .ensures, ← c .before .abs .ensures, c .if1 .left) (sym (take-append-drop (c .before .before .before .args .n) (c .before .before .before .args .coeffs)))
+
+pub normalised-spec : {M : Type 1} → statement M
+normalised-spec =
+    tie.close (tie.spec sum-of-requires abs-requires divided-requires returns returns-2)

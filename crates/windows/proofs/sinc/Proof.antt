@@ -1,0 +1,19 @@
+-- `windows::sinc` meets its contract. Assumes nothing.
+use Rattle.windows.specs.Fir.{sincOf}
+use borrow.Author.Needs.{needs}
+use Rattle.windows.proofs.sinc.Statement.{statement}
+use Rattle.windows.proofs.sinc.Tie as tie
+
+returns : tie.Need-returns
+unfolding sincOf
+returns c = rw (c .if1 .taken)
+
+sin-requires : tie.Need-sin-requires
+sin-requires c κs = search needs
+
+returns-2 : tie.Need-returns-2
+unfolding sincOf
+returns-2 c = rw (c .before .if1 .left, c .sin .ensures)
+
+pub sinc-spec : {M : Type 1} → statement M
+sinc-spec = tie.close (tie.spec returns sin-requires returns-2)

@@ -1,0 +1,62 @@
+-- `windows::window_weight` meets its contract. Assumes nothing.
+use Rattle.windows.specs.Fir.{weightOf}
+use borrow.Author.Needs.{needs}
+use Rattle.windows.proofs.window_weight.Statement.{statement}
+use Rattle.windows.proofs.window_weight.Tie as tie
+
+enum-told : tie.Need-enum-told
+enum-told c = search needs
+
+enum-told-2 : tie.Need-enum-told-2
+enum-told-2 c = search needs
+
+cos-requires : tie.Need-cos-requires
+cos-requires c κs = search needs
+
+enum-told-3 : tie.Need-enum-told-3
+enum-told-3 c = search needs
+
+cos-requires-2 : tie.Need-cos-requires-2
+cos-requires-2 c κs = search needs
+
+enum-told-4 : tie.Need-enum-told-4
+enum-told-4 c = search needs
+
+cos-requires-3 : tie.Need-cos-requires-3
+cos-requires-3 c κs = search needs
+
+cos-requires-4 : tie.Need-cos-requires-4
+cos-requires-4 c κs = search needs
+
+returns : tie.Need-returns
+unfolding weightOf
+returns c = rw (c .enum-told .given .1)
+
+returns-2 : tie.Need-returns-2
+unfolding weightOf
+returns-2 c = rw (c .before .enum-told2 .given .1, c .cos .ensures)
+
+returns-3 : tie.Need-returns-3
+unfolding weightOf
+returns-3 c = rw (c .before .enum-told3 .given .1, c .cos2 .ensures)
+
+returns-4 : tie.Need-returns-4
+unfolding weightOf
+returns-4 c = rw (c .before .before .enum-told4 .given .1, c .before .cos3 .ensures, c .cos4 .ensures)
+
+pub window-weight-spec : {M : Type 1} → statement M
+window-weight-spec =
+    tie.close
+    (tie.spec
+    enum-told
+    enum-told-2
+    cos-requires
+    enum-told-3
+    cos-requires-2
+    enum-told-4
+    cos-requires-3
+    cos-requires-4
+    returns
+    returns-2
+    returns-3
+    returns-4)

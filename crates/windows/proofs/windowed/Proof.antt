@@ -1,0 +1,66 @@
+-- `windows::windowed` meets its contract. Assumes nothing.
+use mathlib.Core.List.{List, _++_}
+use lib.ListN.{replicate}
+use Rattle.scalar.specs.Constants.{plusZero}
+use Prim.Native.Nat.{ℕ}
+use mathlib.Core.Path.{_∙_, ap}
+use Prim.Native.Nat.{_≤_, _-_}
+use mathlib.Core.Path.{_≡_, refl}
+use native.Mathlib.Omega.{arith}
+use lib.Ieee.{ofBits}
+use Rattle.fir.specs.View.{capacity}
+use Rattle.checks.specs.Lists.{upTo}
+use Rattle.windows.specs.Fir.{tapOf}
+use borrow.Author.Needs.{needs}
+use Rattle.windows.proofs.Taps.{Making, make-turn}
+use Rattle.windows.proofs.windowed.Statement.{statement}
+use Rattle.windows.proofs.windowed.Tie as tie
+
+abbrev Inv-loop : tie.InvT-loop
+Inv-loop window taps cutoff coeffs₀ i₀ coeffs i = (i ≤ taps) × Making (tapOf window taps cutoff) capacity coeffs i
+
+abbrev μ-loop : tie.MeasureT-loop
+μ-loop window taps cutoff coeffs₀ i₀ coeffs i = taps - i
+
+loop-holds : tie.Need-loop-holds Inv-loop μ-loop
+unfolding upTo ofBits
+loop-holds c = (search needs, refl)
+
+tap-requires : tie.Need-tap-requires Inv-loop μ-loop
+tap-requires c κs = search needs
+
+mul-coeffs : tie.Need-mul-coeffs Inv-loop μ-loop
+mul-coeffs c = omega arith
+
+array-write-coeffs : tie.Need-array-write-coeffs Inv-loop μ-loop
+array-write-coeffs c = omega arith
+
+add-i : tie.Need-add-i Inv-loop μ-loop
+add-i c = omega arith
+
+loop-less : tie.Need-loop-less Inv-loop μ-loop
+loop-less c = omega arith
+
+loop-again : tie.Need-loop-again Inv-loop μ-loop
+loop-again c = let l = c .before .before in
+    (omega arith, make-turn _ capacity _ (l .loop .i) (omega arith) (c .tap .ensures) (l .loop .inv .1))
+
+returns : tie.Need-returns Inv-loop μ-loop
+returns c = let a = c .before .before .args in
+    let e : c .before .loop .i ≡ a .taps = omega arith in
+    c .before .loop .inv .1 ∙ ap (λ (k : ℕ). upTo (tapOf (a .window) (a .taps) (a .cutoff)) k ++ replicate (capacity - k) plusZero) e
+
+pub windowed-spec : {M : Type 1} → statement M
+windowed-spec =
+    tie.close
+    (tie.spec
+    Inv-loop
+    μ-loop
+    loop-holds
+    tap-requires
+    mul-coeffs
+    array-write-coeffs
+    add-i
+    loop-less
+    loop-again
+    returns)

@@ -1,0 +1,2 @@
+-- The FIR design.
+pub mod Fir
