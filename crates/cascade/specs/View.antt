@@ -1,10 +1,10 @@
 -- The code's types at f64, read field by field as the records of these definitions. Definitions only.
 use mathlib.Core.List.{List, map}
-use lib.Ieee.{Float}
-use Rattle.runs.specs.Runs.{Step, Reset, Block}
+use lib.Ieee.{Float, binary64}
+use Rattle.runs.specs.Runs.{Step, Reset, Block, Fresh}
 use Rattle.runs.specs.View.{answerView}
 use Rattle.sections.specs.View.{sectionView, firstView}
-use Rattle.cascade.specs.Cascade.{CascadeRecord}
+use Rattle.cascade.specs.Cascade.{CascadeRecord, cascade}
 use Rattle.cascade.specs.declared.Cascade.{Cascade}
 use Rattle.cascade.specs.declared.Updated.{Updated}
 use Rattle.cascade.specs.declared.WasReset.{WasReset}
@@ -22,3 +22,7 @@ resetView r = record { refusal = r .refusal; state = cascadeView (r .cascade) }
 -- with the output after it
 abbrev pub blockView : Blocked → List Float → Block CascadeRecord
 blockView r output = record { refusal = r .refusal; clouded = r .clouded; state = cascadeView (r .cascade); output = output }
+
+-- a fresh cascade at f64
+abbrev pub FreshCascade : CascadeRecord → Type 0
+FreshCascade c = Fresh (cascade binary64) c

@@ -1,11 +1,13 @@
--- 01 "Forgetting rule": what an accepted design or set of ready-made taps returns is fresh. Definitions only.
+-- 01 "Forgetting rule": what an accepted design, set of ready-made taps or reset returns is fresh. Definitions only.
 use mathlib.Core.Path.{_≡_}
 use mathlib.Core.List.{List}
 use Prim.Native.Nat.{ℕ}
-use lib.Ieee.{Float}
-use Rattle.cascade.specs.Cascade.{FreshCascade}
-use Rattle.fir.specs.Fir.{fromCoeffs, FreshTaps}
-use Rattle.fir.specs.View.{capacity}
+use lib.Ieee.{Float, binary64}
+use Rattle.runs.specs.Runs.{reset}
+use Rattle.cascade.specs.Cascade.{CascadeRecord, cascade}
+use Rattle.cascade.specs.View.{FreshCascade}
+use Rattle.fir.specs.Fir.{TapsRecord, fir, fromCoeffs}
+use Rattle.fir.specs.View.{capacity, FreshTaps}
 use Rattle.designs.specs.LowPass.{butterworthLp, butterworthHp, chebyshev1Lp, chebyshev2Lp}
 use Rattle.designs.specs.BandPass.{butterworthBp}
 use Rattle.windows.specs.Fir.{firLp}
@@ -17,5 +19,7 @@ pub record AcceptedIsFresh : Type 0 where
   pub chebyshevI : (n : ℕ) (cutoff db rate : Float) → chebyshev1Lp n cutoff db rate .refusal ≡ 0 → FreshCascade (chebyshev1Lp n cutoff db rate .cascade)
   pub chebyshevII : (n : ℕ) (cutoff db rate : Float) → chebyshev2Lp n cutoff db rate .refusal ≡ 0 → FreshCascade (chebyshev2Lp n cutoff db rate .cascade)
   pub bandPass : (n : ℕ) (low high rate : Float) → butterworthBp n low high rate .refusal ≡ 0 → FreshCascade (butterworthBp n low high rate .cascade)
-  pub fir : (n : ℕ) (cutoff : Float) (window : WindowType) → firLp n cutoff window .refusal ≡ 0 → FreshTaps capacity (firLp n cutoff window .filter)
-  pub readyMade : (taps : List Float) → fromCoeffs capacity taps .refusal ≡ 0 → FreshTaps capacity (fromCoeffs capacity taps .filter)
+  pub firLowPass : (n : ℕ) (cutoff : Float) (window : WindowType) → firLp n cutoff window .refusal ≡ 0 → FreshTaps (firLp n cutoff window .filter)
+  pub readyMade : (taps : List Float) → fromCoeffs capacity taps .refusal ≡ 0 → FreshTaps (fromCoeffs capacity taps .filter)
+  pub cascadeReset : (c : CascadeRecord) → reset (cascade binary64) c .refusal ≡ 0 → FreshCascade (reset (cascade binary64) c .state)
+  pub firReset : (r : TapsRecord) → reset (fir capacity binary64) r .refusal ≡ 0 → FreshTaps (reset (fir capacity binary64) r .state)

@@ -1,11 +1,12 @@
 -- 01 "Calculations on the release sheet", over the definitions: one table, of what each row computes and what the sheet states, as numbers: a float by its bit
--- pattern, a refusal by its number, 0 for none. Rows 13 and 14 are not in it yet. Definitions only.
+-- pattern, a refusal by its number, 0 for none. Definitions only.
 use mathlib.Core.Path.{_≡_}
 use mathlib.Core.List.{List, [], _∷_, _++_, map}
 use Prim.Native.Nat.{ℕ}
 use lib.Ieee.{Float, nan, binary64, neg, toBits}
 use Rattle.scalar.specs.Operators.{_⊘_, nat}
-use Rattle.runs.specs.Runs.{Answer, clear, clouded, refused, step}
+use Rattle.ieee.specs.Sqrt.{sqrtOf}
+use Rattle.runs.specs.Runs.{Answer, clear, clouded, refused, Block, step, block}
 use Rattle.sections.specs.Section.{Biquad, sectionOut, sectionNext}
 use Rattle.sections.specs.FirstOrder.{FirstPart, firstOut, firstNext}
 use Rattle.poles.specs.Butterworth.{lpBiquad, hpBiquad, lpFirst, hpFirst}
@@ -67,9 +68,17 @@ pub record Row : Type 0 where
 abbrev pub row : List ℕ → List ℕ → Row
 row c s = record { computed = c; stated = s }
 
--- row 10 speaks of any cutoff
-abbrev pub sheet : Float → List Row
-sheet cutoff =
+-- a block's refusal and its output
+abbrev pub blockNumbers : {S : Type 0} → Block S → List ℕ
+blockNumbers b = b .refusal ∷ patterns (b .output)
+
+-- the taps of row 7
+abbrev pub twoTaps : TapsRecord
+twoTaps = fromCoeffs capacity ((nat 1 ⊘ nat 2) ∷ (nat 1 ⊘ nat 4) ∷ []) .filter
+
+-- row 10 speaks of any cutoff, and row 14 of an output whose two places hold anything
+abbrev pub sheet : Float → Float → Float → List Row
+sheet cutoff p q =
     -- 1. First-order low pass, k = 1: 0.5, 0.5, 0. 2. High pass: 0.5, −0.5, 0
     row (firstCoefficients (lpFirst (nat 1))) (zero½ ∷ zero½ ∷ 0 ∷ [])
     ∷ row (firstCoefficients (hpFirst (nat 1))) (zero½ ∷ minus½ ∷ 0 ∷ [])
@@ -80,7 +89,7 @@ sheet cutoff =
     ∷ row (patterns (firstAnswers (lpFirst (nat 1)) (nat 1 ∷ nat 0 ∷ nat 0 ∷ []))) (zero½ ∷ zero½ ∷ 0 ∷ [])
     ∷ row (patterns (answers (lpBiquad (neg (nat 1)) (nat 0) (nat 1)) (nat 1 ∷ nat 0 ∷ nat 0 ∷ nat 0 ∷ []))) (zero¼ ∷ zero½ ∷ zero¼ ∷ 0 ∷ [])
     -- 7. Taps 0.5, 0.25 on 4, 8, NaN, 4, 8: 2, 5, then two Clouded NaN, then 5 Clear
-    ∷ row (tapAnswers (fromCoeffs capacity ((nat 1 ⊘ nat 2) ∷ (nat 1 ⊘ nat 4) ∷ []) .filter) (nat 4 ∷ nat 8 ∷ nan ∷ nat 4 ∷ nat 8 ∷ []))
+    ∷ row (tapAnswers twoTaps (nat 4 ∷ nat 8 ∷ nan ∷ nat 4 ∷ nat 8 ∷ []))
     (0 ∷ two ∷ 0 ∷ five ∷ 1 ∷ notANumber ∷ 1 ∷ notANumber ∷ 0 ∷ five ∷ [])
     -- 8. Low pass order 2, rate 1000: cutoff 500 draws 2; 499 passes the checks
     ∷ row (validateParams (nat 500) (nat 1000) 2 ∷ validateParams (nat 499) (nat 1000) 2 ∷ []) (2 ∷ 0 ∷ [])
@@ -90,8 +99,12 @@ sheet cutoff =
     ∷ row (validateBand (nat 100) (nat 200) (nat 0) 2 ∷ []) (2 ∷ [])
     -- 12. FIR with 0 or 65 taps, cutoff 0.6: 1
     ∷ row (validateFir 0 (nat 3 ⊘ nat 5) ∷ validateFir 65 (nat 3 ⊘ nat 5) ∷ []) (1 ∷ 1 ∷ [])
+    -- 13. sqrt(4) = 2; sqrt(2) = 3FF6A09E667F3BCD
+    ∷ row (patterns (sqrtOf binary64 (nat 4) ∷ sqrtOf binary64 (nat 2) ∷ [])) (two ∷ 0x3FF6A09E667F3BCD ∷ [])
+    -- 14. Three samples into an output of two: 5, both places kept
+    ∷ row (blockNumbers (block (fir capacity binary64) twoTaps (nat 4 ∷ nat 8 ∷ nat 4 ∷ []) (p ∷ q ∷ []))) (5 ∷ patterns (p ∷ q ∷ []))
     ∷ []
 
 -- every row computes what it states
 pub record ReleaseSheet : Type 0 where
-  pub holds : (cutoff : Float) → map (λ (r : Row). r .computed) (sheet cutoff) ≡ map (λ (r : Row). r .stated) (sheet cutoff)
+  pub holds : (cutoff p q : Float) → map (λ (r : Row). r .computed) (sheet cutoff p q) ≡ map (λ (r : Row). r .stated) (sheet cutoff p q)

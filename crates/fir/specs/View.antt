@@ -1,10 +1,10 @@
 -- The code's types at f64, read field by field as the records of these definitions. Definitions only.
 use Prim.Native.Nat.{ℕ}
 use mathlib.Core.List.{List}
-use lib.Ieee.{Float}
-use Rattle.runs.specs.Runs.{Step, Reset, Block}
+use lib.Ieee.{Float, binary64}
+use Rattle.runs.specs.Runs.{Step, Reset, Block, Fresh}
 use Rattle.runs.specs.View.{answerView}
-use Rattle.fir.specs.Fir.{TapsRecord, Made as MadeRecord}
+use Rattle.fir.specs.Fir.{TapsRecord, fir, Made as MadeRecord}
 use Rattle.fir.specs.declared.TapRecord.{TapRecord}
 use Rattle.fir.specs.declared.Updated.{Updated}
 use Rattle.fir.specs.declared.WasReset.{WasReset}
@@ -30,3 +30,7 @@ madeView m = record { refusal = m .refusal; filter = tapsView (m .filter) }
 -- with the output after it
 abbrev pub blockView : Blocked → List Float → Block TapsRecord
 blockView r output = record { refusal = r .refusal; clouded = r .clouded; state = tapsView (r .filter); output = output }
+
+-- a fresh record at f64 and that capacity
+abbrev pub FreshTaps : TapsRecord → Type 0
+FreshTaps r = Fresh (fir capacity binary64) r

@@ -4,10 +4,10 @@ use mathlib.Core.Bool.{Bool, true, false, cond}
 use Prim.Native.Nat.{ℕ, _≤_}
 use native.Mathlib.Omega.{arith}
 use lib.Dec.{eqb}
-use lib.Ieee.{Float}
+use lib.Ieee.{Float, binary64}
 use borrow.Author.Tests.{eqb-true, eqb-false}
-use Rattle.fir.specs.Fir.{Made, blankTaps, holding, FreshTaps}
-use Rattle.fir.specs.View.{capacity}
+use Rattle.fir.specs.Fir.{Made, blankTaps, holding}
+use Rattle.fir.specs.View.{capacity, FreshTaps}
 use Rattle.fir.proofs.Fresh.{holding-fresh}
 use Rattle.checks.specs.Checks.{validateFir}
 use Rattle.checks.proofs.Laws.{good-fir}
@@ -22,16 +22,16 @@ code-in Hamming = omega arith
 code-in Hanning = omega arith
 code-in Blackman = omega arith
 
-pub fir-fresh : (n : ℕ) (cutoff : Float) (w : WindowType) → firLp n cutoff w .refusal ≡ 0 → FreshTaps capacity (firLp n cutoff w .filter)
+pub fir-fresh : (n : ℕ) (cutoff : Float) (w : WindowType) → firLp n cutoff w .refusal ≡ 0 → FreshTaps (firLp n cutoff w .filter)
 unfolding firLp
 fir-fresh n cutoff w = go (eqb (validateFir n cutoff) 0) refl
   where
     made : Bool → Made
     made b = cond b (record { refusal = 0; filter = holding capacity (firTaps w n cutoff) (codeOf w) }) (record { refusal = validateFir n cutoff; filter = blankTaps capacity })
 
-    go : (b : Bool) → eqb (validateFir n cutoff) 0 ≡ b → made b .refusal ≡ 0 → FreshTaps capacity (made b .filter)
+    go : (b : Bool) → eqb (validateFir n cutoff) 0 ≡ b → made b .refusal ≡ 0 → FreshTaps (made b .filter)
     go true e r =
         let p = good-fir n cutoff (eqb-true (validateFir n cutoff) 0 e) in
         let l = taps-length w n cutoff in
-        holding-fresh capacity (firTaps w n cutoff) (codeOf w) (omega (arith, l, p)) (omega (arith, l, p)) (code-in w)
+        holding-fresh capacity binary64 (firTaps w n cutoff) (codeOf w) (omega (arith, l, p)) (omega (arith, l, p)) (code-in w)
     go false e r = absurd (eqb-false (validateFir n cutoff) 0 e r)

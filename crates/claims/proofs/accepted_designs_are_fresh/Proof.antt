@@ -1,6 +1,8 @@
 -- `claims::accepted_designs_are_fresh` meets its contract. Assumes nothing.
 use Rattle.fir.specs.View.{capacity}
-use Rattle.fir.proofs.Fresh.{ready-made-fresh}
+use lib.Ieee.{binary64}
+use Rattle.cascade.proofs.Forgetting as cascade
+use Rattle.fir.proofs.Fresh as fir
 use Rattle.designs.proofs.Fresh.{butterworth-lp-fresh, butterworth-hp-fresh, chebyshev1-fresh, chebyshev2-fresh, bandpass-fresh}
 use Rattle.windows.proofs.Fresh.{fir-fresh}
 use Rattle.claims.proofs.accepted_designs_are_fresh.Statement.{statement}
@@ -13,8 +15,10 @@ returns c = record {
   chebyshevI = chebyshev1-fresh;
   chebyshevII = chebyshev2-fresh;
   bandPass = bandpass-fresh;
-  fir = fir-fresh;
-  readyMade = ready-made-fresh capacity;
+  firLowPass = fir-fresh;
+  readyMade = fir.ready-made-fresh capacity binary64;
+  cascadeReset = cascade.reset-makes-fresh binary64;
+  firReset = fir.reset-makes-fresh capacity binary64;
 }
 
 pub accepted-designs-are-fresh-spec : {M : Type 1} → statement M

@@ -3,15 +3,16 @@ use mathlib.Core.Path.{refl}
 use lib.Ieee.{add, sub, mul, div, neg, lt, le, isNan, ofInt, ofBits, toBits}
 use Rattle.runs.specs.Refusals.{orderRefused}
 use Rattle.checks.specs.Checks.{notPositive, cutoffRefused, bandRefused, validateParams, validateBand, validateFir}
-use Rattle.runs.specs.Runs.{step}
-use Rattle.fir.specs.Fir.{pushed, next, heldOf, notAllFinite, clouding, sum, value, mark, checkTaps, holding, fromCoeffs}
+use Rattle.runs.specs.Runs.{notAllFinite, step, block}
+use Rattle.ieee.specs.Sqrt.{sqrtOf}
+use Rattle.fir.specs.Fir.{pushed, next, heldOf, clouding, sum, value, mark, checkTaps, holding, fromCoeffs}
 use Rattle.poles.specs.Butterworth.{denominatorOf, lpBiquad, hpBiquad, lpFirst, hpFirst}
 use Rattle.claims.proofs.release_sheet.Statement.{statement}
 use Rattle.claims.proofs.release_sheet.Tie as tie
 
 returns : tie.Need-returns
-unfolding validateFir step pushed next heldOf notAllFinite clouding sum value mark checkTaps holding fromCoeffs denominatorOf lpBiquad hpBiquad lpFirst hpFirst validateParams validateBand orderRefused notPositive cutoffRefused bandRefused add sub mul div neg lt le isNan ofInt ofBits toBits
-returns c = record { holds = λ cutoff. refl }
+unfolding sqrtOf validateFir step block pushed next heldOf notAllFinite clouding sum value mark checkTaps holding fromCoeffs denominatorOf lpBiquad hpBiquad lpFirst hpFirst validateParams validateBand orderRefused notPositive cutoffRefused bandRefused add sub mul div neg lt le isNan ofInt ofBits toBits
+returns c = record { holds = λ cutoff p q. refl }
 
 pub release-sheet-spec : {M : Type 1} → statement M
 release-sheet-spec = tie.close (tie.spec returns)
