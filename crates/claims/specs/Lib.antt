@@ -1,6 +1,7 @@
 -- What the claims say.
 pub mod Ieee
 pub mod Elementary
+pub mod Decimals
 pub mod Fresh
 pub mod Forgetting
 pub mod Sheet

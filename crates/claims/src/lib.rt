@@ -3,6 +3,7 @@
 ghost use mathlib.Core.Path.{_≡_};
 ghost use Rattle.claims.specs.Ieee.{MeetsIeee754, Determined, OverflowsAtMidpoint};
 ghost use Rattle.claims.specs.Elementary.{NearestIsNearest, LnSplits, constantsOf};
+ghost use Rattle.claims.specs.Decimals.{DecimalsAreNearest};
 ghost use Rattle.claims.specs.Fresh.{AcceptedIsFresh};
 ghost use Rattle.claims.specs.Forgetting.{CascadeRule, FirRule};
 ghost use Rattle.claims.specs.Sheet.{ReleaseSheet};
@@ -57,6 +58,11 @@ pub fn constants_have_their_bits() -> Constants
         epsilon: scalar::EPSILON,
     }
 }
+
+// A decimal in a request line gives the double nearest to it.
+pub fn decimals_are_nearest()
+    ensures { λ _. ⌜ DecimalsAreNearest ⌝ }
+{}
 
 // Demand 3, the forgetting rule, of every list of calls on every cascade.
 pub fn cascade_forgets(start: Cascade)

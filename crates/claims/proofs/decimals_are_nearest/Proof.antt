@@ -1,0 +1,10 @@
+-- `claims::decimals_are_nearest` meets its contract. Assumes nothing.
+use Rattle.protocol.proofs.Decimals.{decimal-nearest}
+use Rattle.claims.proofs.decimals_are_nearest.Statement.{statement}
+use Rattle.claims.proofs.decimals_are_nearest.Tie as tie
+
+returns : tie.Need-returns
+returns c = record { at = decimal-nearest }
+
+pub decimals-are-nearest-spec : {M : Type 1} → statement M
+decimals-are-nearest-spec = tie.close (tie.spec returns)

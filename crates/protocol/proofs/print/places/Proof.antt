@@ -1,0 +1,29 @@
+-- `protocol::print::places` meets its contract. Assumes nothing.
+use native.Mathlib.Omega.{arith}
+use Rattle.protocol.proofs.Texts.{Counting, count-start, count-turn, count-done}
+use Rattle.protocol.proofs.print.places.Statement.{statement}
+use Rattle.protocol.proofs.print.places.Tie as tie
+
+abbrev Inv-loop : tie.InvT-loop
+Inv-loop n k₀ rest₀ k rest = Counting n k rest
+
+abbrev μ-loop : tie.MeasureT-loop
+μ-loop n k₀ rest₀ k rest = rest
+
+loop-holds : tie.Need-loop-holds Inv-loop μ-loop
+loop-holds c = count-start (c .args .n)
+
+add-k : tie.Need-add-k Inv-loop μ-loop
+add-k c = omega arith
+
+loop-less : tie.Need-loop-less Inv-loop μ-loop
+loop-less c = omega arith
+
+loop-again : tie.Need-loop-again Inv-loop μ-loop
+loop-again c = count-turn (c .before .before .args .n) (c .before .loop .k) (c .before .loop .rest) (omega arith) (c .before .loop .inv)
+
+returns : tie.Need-returns Inv-loop μ-loop
+returns c = count-done (c .before .before .args .n) (c .before .loop .k) (c .before .loop .rest) (omega arith) (c .before .loop .inv)
+
+pub places-spec : {M : Type 1} → statement M
+places-spec = tie.close (tie.spec Inv-loop μ-loop loop-holds add-k loop-less loop-again returns)
