@@ -32,8 +32,8 @@ fn turn(x: f64) -> Option<(i64, f64, f64)> {
     let q = nearest(x * b(0x3FE45F306DC9C883));
     let r = (x - q * b(0x3FF921FB54400000)) - q * b(0x3DD0B4611A626331);
     let s = r * r;
-    let alternating = |first: u64| -> Vec<f64> {
-        (0..8).map(|i| if i % 2 == 0 { -(1.0 / factorial(first + 2 * i)) } else { 1.0 / factorial(first + 2 * i) }).collect()
+    let alternating = |first: u64| -> [f64; 8] {
+        std::array::from_fn(|i| if i % 2 == 0 { -(1.0 / factorial(first + 2 * i as u64)) } else { 1.0 / factorial(first + 2 * i as u64) })
     };
     let sine = r + (r * s) * horner(s, &alternating(3));
     let cosine = 1.0 + s * horner(s, &alternating(2));
@@ -76,7 +76,7 @@ pub fn exp(x: f64) -> f64 {
     }
     let k = nearest(x / b(0x3FE62E42FEFA39EF));
     let r = (x - k * b(0x3FE62E42FEE00000)) - k * b(0x3DEA39EF35793C76);
-    let series: Vec<f64> = (0..14).map(|j| 1.0 / factorial(j)).collect();
+    let series: [f64; 14] = std::array::from_fn(|j| 1.0 / factorial(j as u64));
     horner(r, &series) * b(((k as i64 + 1023) as u64) << 52)
 }
 
@@ -109,7 +109,7 @@ pub fn ln(x: f64) -> f64 {
     }
     let f = (m - 1.0) / (m + 1.0);
     let s = f * f;
-    let series: Vec<f64> = (0..11).map(|j| 1.0 / (2 * j + 1) as f64).collect();
+    let series: [f64; 11] = std::array::from_fn(|j| 1.0 / (2 * j + 1) as f64);
     e * b(0x3FE62E42FEE00000) + ((2.0 * f) * horner(s, &series) + e * b(0x3DEA39EF35793C76))
 }
 
@@ -125,18 +125,14 @@ pub fn cosh(a: f64) -> f64 {
 #[derive(Clone, Copy, PartialEq, PartialOrd, Default)]
 pub struct Port(pub f64);
 
-pub fn bits(x: f64) -> String {
-    if x.is_nan() { "NaN".into() } else { format!("{:016X}", x.to_bits()) }
-}
-
 impl fmt::Debug for Port {
     fn fmt(&self, f: &mut fmt::Formatter) -> fmt::Result {
-        write!(f, "{}", bits(self.0))
+        if self.0.is_nan() { f.write_str("NaN") } else { write!(f, "{:016X}", self.0.to_bits()) }
     }
 }
 impl fmt::Display for Port {
     fn fmt(&self, f: &mut fmt::Formatter) -> fmt::Result {
-        write!(f, "{}", bits(self.0))
+        fmt::Debug::fmt(self, f)
     }
 }
 

@@ -1,67 +1,27 @@
-// The oracle: answers request lines on standard input by the published Rust, in the language of the program `sheet`.
-// Requests: sqrt sin cos tan exp ln sinh cosh pow10; lowpass highpass bandpass chebyshev1 chebyshev2; cstep creset.
-// For the FIR filter, which is current beside the cascade: `fir TAPS CUTOFF WINDOW`, the window one of rectangular hamming
-// hanning blackman; `taps T0 T1 ..`, ready-made; `fstep X`; `freset`. A design or ready-made taps answer `fir COUNT CODE` and
-// the taps; the code is 0 to 3 in the order above, 4 for ready-made. Numbers of taps that are not built answer an error.
+// The oracle: answers the request lines of the protocol page on standard input by the published Rust. Marks, refusal numbers,
+// limits and blocks are 01's, beside the Rust's filter.
+mod cascades;
 mod core;
+mod current;
 mod elementary;
 mod taps;
+mod text;
 
-use crate::core::filters::butterworth::*;
-use crate::core::filters::chebyshev::*;
 use crate::core::filters::FilterError;
-use elementary::{bits, Port};
-use std::fmt::Debug;
-use std::io::{BufRead, BufWriter, Write};
+use cascades::Kind;
+use current::Current;
+use std::io::{BufRead, BufReader, BufWriter, Write};
 
-/// A designed filter of any kind.
-trait Filter {
-    fn update(&mut self, x: Port) -> Port;
-    fn reset(&mut self);
-    fn text(&self) -> String;
-}
-macro_rules! filter {
-    ($($name:ident)*) => { $(
-        impl<const N: usize> Filter for $name<Port, N> {
-            fn update(&mut self, x: Port) -> Port { $name::update(self, x) }
-            fn reset(&mut self) { $name::reset(self) }
-            fn text(&self) -> String { describe(self) }
-        }
-    )* };
-}
-filter! { ButterworthLp ButterworthHp ButterworthBp ChebyshevI ChebyshevII }
+const LONGEST_LINE: usize = 8192;
+const LONGEST_BLOCK: usize = 256;
+const BUFFER: usize = 1 << 16;
 
-/// `cascade COUNT FLAG`, then the coefficients, from the Debug form, where a number is its bit pattern.
-fn describe(filter: &impl Debug) -> String {
-    let text = format!("{:?}", filter);
-    let all = |name: &str| -> Vec<String> {
-        let key = format!(" {name}: ");
-        text.match_indices(&key).map(|(at, _)| text[at + key.len()..].split(|c: char| !c.is_alphanumeric()).next().unwrap().to_string()).collect()
-    };
-    let (b0, b1, b2, a1, a2) = (all("b0"), all("b1"), all("b2"), all("a1"), all("a2"));
-    let places = b2.len();
-    let count: usize = all("n_biquads")[0].parse().unwrap();
-    let flag = b0.len() > places;
-    let mut words = vec!["cascade".to_string(), count.to_string(), (flag as usize).to_string()];
-    if flag {
-        words.extend([b0[places].clone(), b1[places].clone(), a1[places].clone()]);
-    }
-    for i in 0..count {
-        words.extend([b0[i].clone(), b1[i].clone(), b2[i].clone(), a1[i].clone(), a2[i].clone()]);
-    }
-    words.join(" ")
-}
+/// Why a line is not a request.
+type Bad = &'static str;
+const BAD_NUMBER: Bad = "bad number";
+const TOO_MANY: Bad = "too many samples";
 
-fn number(token: &str) -> Option<f64> {
-    match token {
-        "NaN" => Some(f64::NAN),
-        "inf" => Some(f64::INFINITY),
-        "-inf" => Some(f64::NEG_INFINITY),
-        _ if token.len() == 16 && token.bytes().all(|c| c.is_ascii_hexdigit()) => Some(f64::from_bits(u64::from_str_radix(token, 16).ok()?)),
-        _ => token.parse().ok(),
-    }
-}
-
+/// The number of a Rust error.
 fn refusal(error: FilterError) -> u8 {
     match error {
         FilterError::InvalidOrder => 1,
@@ -71,146 +31,153 @@ fn refusal(error: FilterError) -> u8 {
     }
 }
 
-/// What 01's tables and orders of checks say: 0, or the number.
-fn by_01(kind: &str, n: usize, v: &[f64]) -> u8 {
-    let order = |most| n == 0 || n > most;
-    let rate = |r: f64| r.is_nan() || r <= 0.0;
-    let cutoff = |f: f64, r: f64| f.is_nan() || f <= 0.0 || f >= r * 0.5;
-    match kind {
-        "bandpass" => {
-            let (low, high, r) = (v[0], v[1], v[2]);
-            if order(4) {
-                1
-            } else if low.is_nan() || high.is_nan() || low <= 0.0 || high <= low || high >= r * 0.5 {
-                2
-            } else if rate(r) {
-                3
-            } else {
-                0
+fn function(word: &[u8]) -> Option<fn(f64) -> f64> {
+    Some(match word {
+        b"sqrt" => f64::sqrt,
+        b"sin" => elementary::sin,
+        b"cos" => elementary::cos,
+        b"tan" => elementary::tan,
+        b"exp" => elementary::exp,
+        b"ln" => elementary::ln,
+        b"sinh" => elementary::sinh,
+        b"cosh" => elementary::cosh,
+        b"pow10" => elementary::pow10,
+        _ => return None,
+    })
+}
+
+fn number(token: &[u8]) -> Result<f64, Bad> {
+    text::number(token).ok_or(BAD_NUMBER)
+}
+
+fn numbers(tokens: &[&[u8]]) -> Result<Vec<f64>, Bad> {
+    tokens.iter().map(|t| number(t)).collect()
+}
+
+fn count(token: &[u8]) -> Result<usize, Bad> {
+    text::count(token).ok_or(BAD_NUMBER)
+}
+
+fn want(right: bool) -> Result<(), Bad> {
+    if right { Ok(()) } else { Err("wrong number of tokens") }
+}
+
+/// The two current filters, and the number of the line at hand.
+struct Bench {
+    cascade: Current,
+    taps: Current,
+    line: u64,
+}
+
+impl Bench {
+    /// By the first letter of a step, block or reset.
+    fn current(&mut self, word: &[u8]) -> &mut Current {
+        if word[0] == b'c' { &mut self.cascade } else { &mut self.taps }
+    }
+
+    fn answer(&mut self, word: &[u8], rest: &[&[u8]], out: &mut Vec<u8>) -> Result<(), Bad> {
+        match word {
+            b"lowpass" => self.cascade(Kind::LowPass, rest, out),
+            b"highpass" => self.cascade(Kind::HighPass, rest, out),
+            b"bandpass" => self.cascade(Kind::BandPass, rest, out),
+            b"chebyshev1" => self.cascade(Kind::Chebyshev1, rest, out),
+            b"chebyshev2" => self.cascade(Kind::Chebyshev2, rest, out),
+            b"fir" => self.fir(rest, out),
+            b"taps" => self.ready_made(rest, out),
+            b"cstep" | b"fstep" => {
+                want(rest.len() == 1)?;
+                let x = number(rest[0])?;
+                Ok(self.current(word).step(x, out))
             }
-        }
-        _ => {
-            let r = v[v.len() - 1];
-            if order(8) {
-                1
-            } else if rate(r) {
-                3
-            } else if cutoff(v[0], r) {
-                2
-            } else if v.len() == 3 && (v[1].is_nan() || v[1] <= 0.0) {
-                4
-            } else {
-                0
+            b"cblock" | b"fblock" => self.block(word, rest, out),
+            b"creset" | b"freset" => {
+                want(rest.is_empty())?;
+                Ok(self.current(word).reset(out))
+            }
+            _ => {
+                let f = function(word).ok_or("unknown request")?;
+                want(rest.len() == 1)?;
+                Ok(text::push_float(out, f(number(rest[0])?)))
             }
         }
     }
-}
 
-/// The design at each order; 100 stands for every order above 9.
-macro_rules! by_order {
-    ($n:expr, $design:ident $args:tt) => {
-        by_order!($n, $design $args, 0 1 2 3 4 5 6 7 8 9)
-    };
-    ($n:expr, $design:ident $args:tt, $($order:literal)*) => {
-        match $n {
-            $( $order => by_order!(at $order, $design $args), )*
-            _ => by_order!(at 100, $design $args),
-        }
-    };
-    (at $order:literal, $design:ident ($($arg:expr),*)) => {
-        $design::<Port, $order>($($arg),*).map(|f| Box::new(f) as Box<dyn Filter>).map_err(refusal)
-    };
-}
-
-/// The Rust's own design. Where no parameter is NaN it must refuse just where 01 says.
-fn design(kind: &str, n: usize, v: &[f64]) -> Result<Box<dyn Filter>, u8> {
-    let p: Vec<Port> = v.iter().map(|x| Port(*x)).collect();
-    let wanted = by_01(kind, n, v);
-    let made = match kind {
-        "lowpass" => by_order!(n, design_butterworth_lp(p[0], p[1])),
-        "highpass" => by_order!(n, design_butterworth_hp(p[0], p[1])),
-        "bandpass" => by_order!(n, design_butterworth_bp(p[0], p[1], p[2])),
-        "chebyshev1" => by_order!(n, design_chebyshev1_lp(p[0], p[1], p[2])),
-        _ => by_order!(n, design_chebyshev2_lp(p[0], p[1], p[2])),
-    };
-    if !v.iter().any(|x| x.is_nan()) {
-        let drawn = made.as_ref().err().copied().unwrap_or(0);
-        assert_eq!(drawn, wanted, "{kind} {n} {v:?}");
+    fn cascade(&mut self, kind: Kind, rest: &[&[u8]], out: &mut Vec<u8>) -> Result<(), Bad> {
+        want(rest.len() == 1 + kind.floats())?;
+        let (order, v) = (count(rest[0])?, numbers(&rest[1..])?);
+        Ok(self.cascade.replace(cascades::design(kind, order, &v), self.line, out))
     }
-    if wanted != 0 { Err(wanted) } else { made }
-}
 
-fn main() {
-    let mut current: Option<Box<dyn Filter>> = None;
-    let mut clouded = false;
-    let mut fir: Option<taps::Fir> = None;
-    let out = std::io::stdout();
-    let mut out = BufWriter::new(out.lock());
-    for line in std::io::stdin().lock().lines() {
-        let line = line.unwrap();
-        let tokens: Vec<&str> = line.split_whitespace().collect();
-        if tokens.is_empty() || tokens[0].starts_with('#') {
-            continue;
+    fn fir(&mut self, rest: &[&[u8]], out: &mut Vec<u8>) -> Result<(), Bad> {
+        want(rest.len() == 3)?;
+        let (taps, cutoff) = (count(rest[0])?, number(rest[1])?);
+        let window = taps::window(rest[2]).ok_or("unknown window")?;
+        Ok(self.taps.replace(taps::design(taps, cutoff, window), self.line, out))
+    }
+
+    fn ready_made(&mut self, rest: &[&[u8]], out: &mut Vec<u8>) -> Result<(), Bad> {
+        if rest.len() > LONGEST_BLOCK {
+            return Err(TOO_MANY);
         }
-        let named = tokens[0] == "fir" && tokens.len() == 4;
-        let last = if named { 3 } else { tokens.len() };
-        let numbers: Option<Vec<f64>> = tokens[1..last].iter().map(|t| number(t)).collect();
-        let Some(v) = numbers else {
-            writeln!(out, "error number").unwrap();
-            continue;
+        let v = numbers(rest)?;
+        Ok(self.taps.replace(taps::from_coeffs(&v), self.line, out))
+    }
+
+    fn block(&mut self, word: &[u8], rest: &[&[u8]], out: &mut Vec<u8>) -> Result<(), Bad> {
+        want(!rest.is_empty())?;
+        let samples = count(rest[0])?;
+        if samples > LONGEST_BLOCK {
+            return Err(TOO_MANY);
+        }
+        want(rest.len() == samples + 2)?;
+        let v = numbers(&rest[1..=samples])?;
+        let length = count(rest[samples + 1])?;
+        if length > LONGEST_BLOCK {
+            return Err(TOO_MANY);
+        }
+        Ok(self.current(word).block(&v, length, out))
+    }
+
+    /// The answer to a line without its end; nothing for a blank line or a comment.
+    fn reply(&mut self, line: &[u8], out: &mut Vec<u8>) {
+        let answer = if line.len() > LONGEST_LINE {
+            Err("line too long")
+        } else if line.first() == Some(&b'#') {
+            Ok(())
+        } else {
+            match text::tokens(line).split_first() {
+                None => Ok(()),
+                Some((word, rest)) => self.answer(word, rest, out),
+            }
         };
-        let answer = match (tokens[0], v.len()) {
-            ("sqrt", 1) => bits(v[0].sqrt()),
-            ("sin", 1) => bits(elementary::sin(v[0])),
-            ("cos", 1) => bits(elementary::cos(v[0])),
-            ("tan", 1) => bits(elementary::tan(v[0])),
-            ("exp", 1) => bits(elementary::exp(v[0])),
-            ("ln", 1) => bits(elementary::ln(v[0])),
-            ("sinh", 1) => bits(elementary::sinh(v[0])),
-            ("cosh", 1) => bits(elementary::cosh(v[0])),
-            ("pow10", 1) => bits(elementary::pow10(v[0])),
-            ("lowpass" | "highpass", 3) | ("bandpass" | "chebyshev1" | "chebyshev2", 4) => match design(tokens[0], tokens[1].parse().unwrap(), &v[1..]) {
-                Ok(filter) => {
-                    let text = filter.text();
-                    current = Some(filter);
-                    clouded = false;
-                    text
-                }
-                Err(n) => {
-                    current = None;
-                    format!("refused {n}")
-                }
-            },
-            ("cstep", 1) => match &mut current {
-                None => "refused 11".to_string(),
-                Some(filter) => {
-                    let y = filter.update(Port(v[0]));
-                    clouded |= !v[0].is_finite();
-                    format!("{} {:?}", if clouded { "clouded" } else { "clear" }, y)
-                }
-            },
-            ("creset", 0) => match &mut current {
-                None => "refused 11".to_string(),
-                Some(filter) => {
-                    filter.reset();
-                    clouded = false;
-                    "done".to_string()
-                }
-            },
-            ("fir", 2) if named => {
-                let (text, made) = taps::design(tokens[1].parse().unwrap(), v[1], tokens[3]);
-                fir = made;
-                text
-            }
-            ("taps", _) => {
-                let (text, made) = taps::from_coeffs(&v);
-                fir = made;
-                text
-            }
-            ("fstep", 1) => taps::step(&mut fir, v[0]),
-            ("freset", 0) => taps::reset(&mut fir),
-            _ => "error request".to_string(),
-        };
-        writeln!(out, "{answer}").unwrap();
+        if let Err(bad) = answer {
+            write!(out, "error {bad}").unwrap();
+        }
     }
+}
+
+/// A line without its LF, and without the CR before it.
+fn without_end(line: &[u8]) -> &[u8] {
+    match line.strip_suffix(b"\n") {
+        None => line,
+        Some(rest) => rest.strip_suffix(b"\r").unwrap_or(rest),
+    }
+}
+
+fn main() -> std::io::Result<()> {
+    let mut bench = Bench { cascade: Current::new(11), taps: Current::new(12), line: 0 };
+    let mut input = BufReader::with_capacity(BUFFER, std::io::stdin().lock());
+    let mut output = BufWriter::with_capacity(BUFFER, std::io::stdout().lock());
+    let (mut line, mut answer) = (Vec::new(), Vec::new());
+    while input.read_until(b'\n', &mut line)? > 0 {
+        bench.line += 1;
+        bench.reply(without_end(&line), &mut answer);
+        if !answer.is_empty() {
+            answer.push(b'\n');
+            output.write_all(&answer)?;
+        }
+        line.clear();
+        answer.clear();
+    }
+    output.flush()
 }

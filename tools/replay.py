@@ -15,6 +15,7 @@ KINDS = {"lowpass": 1, "highpass": 2, "bandpass": 3, "cstep": 4, "creset": 5, "c
          "fir": 8, "fstep": 9, "freset": 10, "taps": 11}
 WINDOWS = ["rectangular", "hamming", "hanning", "blackman"]
 NAN = 0x7FF8000000000000
+MOST = 999_999_999  # the largest count that a request line can carry; the oracle refuses all above 64 alike
 
 
 def bits(x):
@@ -164,7 +165,7 @@ def line(q):
     if kind in ("creset", "freset"):
         return kind
     if kind == "fir":
-        return f"fir {n} {hexadecimal(a)} {WINDOWS[b]}"
+        return f"fir {min(n, MOST)} {hexadecimal(a)} {WINDOWS[b]}"
     if kind == "taps":
         return " ".join(["taps"] + [hexadecimal(x) for x in (a, b, c)[:n]])
     numbers = [a, b] if kind in ("lowpass", "highpass") else [a, b, c]
@@ -174,7 +175,7 @@ def line(q):
 def words(answer):
     tokens = answer.split()
     number = lambda t: NAN if t == "NaN" else int(t, 16)
-    if tokens[0] in ("cascade", "fir"):
+    if tokens[0] in ("cascade", "taps"):
         return [0, int(tokens[1]), int(tokens[2])] + [number(t) for t in tokens[3:]]
     if tokens[0] in ("clear", "clouded"):
         return [["clear", "clouded"].index(tokens[0]), number(tokens[1])]
