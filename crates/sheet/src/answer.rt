@@ -36,7 +36,12 @@ pub(crate) struct Answered {
     pub(crate) records: Records,
 }
 
-pub(crate) fn answer_fault(fault: Fault, output: &mut [u8], at: usize, records: Records) -> Answered {
+pub(crate) fn answer_fault(
+    fault: Fault,
+    output: &mut [u8],
+    at: usize,
+    records: Records,
+) -> Answered {
     let at = put_fault(output, at, fault);
     Answered {
         at: end_line(output, at),
@@ -64,7 +69,13 @@ fn with_filter(a: FirAnswer, output: &mut [u8], records: Records) -> Answered {
     }
 }
 
-fn answer_request(request: Request, rest: &[u8], output: &mut [u8], at: usize, records: Records) -> Answered {
+fn answer_request(
+    request: Request,
+    rest: &[u8],
+    output: &mut [u8],
+    at: usize,
+    records: Records,
+) -> Answered {
     match request {
         Request::Cascade(r) => {
             let cascade = records.cascade;

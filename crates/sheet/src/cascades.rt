@@ -54,10 +54,11 @@ fn put_sections(output: &mut [u8], at: usize, sections: [Section; 4], count: usi
     let mut at = at;
     let mut i: usize = 0;
     while i < 4 {
-        if i < count {
-            let s = sections[i];
-            at = put_section(output, at, s);
+        if i >= count {
+            return at;
         }
+        let s = sections[i];
+        at = put_section(output, at, s);
         i += 1;
     }
     at
@@ -109,7 +110,13 @@ fn answer_fault(fault: Fault, output: &mut [u8], at: usize, cascade: Cascade) ->
     }
 }
 
-fn answer_design(kind: CascadeKind, rest: &[u8], output: &mut [u8], at: usize, cascade: Cascade) -> CascadeAnswer {
+fn answer_design(
+    kind: CascadeKind,
+    rest: &[u8],
+    output: &mut [u8],
+    at: usize,
+    cascade: Cascade,
+) -> CascadeAnswer {
     let p = order_and_floats(rest, floats_of(kind));
     let fault = p.fault;
     let Fault::None = fault else {
@@ -144,6 +151,22 @@ fn answer_step(rest: &[u8], output: &mut [u8], at: usize, cascade: Cascade) -> C
     }
 }
 
+// The block of these samples, into these places.
+fn answer_samples(
+    samples: &[f64],
+    places: &mut [f64],
+    output: &mut [u8],
+    at: usize,
+    cascade: Cascade,
+) -> CascadeAnswer {
+    let b = cascade.block(samples, places);
+    let after = b.cascade;
+    CascadeAnswer {
+        at: put_block(output, at, b.refusal, b.clouded, places),
+        cascade: after,
+    }
+}
+
 fn answer_block(rest: &[u8], output: &mut [u8], at: usize, cascade: Cascade) -> CascadeAnswer {
     let mut input = [0.0; MOST];
     let b = block_lengths(rest, &mut input);
@@ -154,12 +177,7 @@ fn answer_block(rest: &[u8], output: &mut [u8], at: usize, cascade: Cascade) -> 
     let m = b.samples;
     let l = b.places;
     let mut places = places_before();
-    let d = cascade.block(&input[..m], &mut places[..l]);
-    let after = d.cascade;
-    CascadeAnswer {
-        at: put_block(output, at, d.refusal, d.clouded, &places[..l]),
-        cascade: after,
-    }
+    answer_samples(&input[..m], &mut places[..l], output, at, cascade)
 }
 
 fn answer_reset(rest: &[u8], output: &mut [u8], at: usize, cascade: Cascade) -> CascadeAnswer {
@@ -175,7 +193,13 @@ fn answer_reset(rest: &[u8], output: &mut [u8], at: usize, cascade: Cascade) -> 
     }
 }
 
-pub(crate) fn answer_cascade(request: CascadeRequest, rest: &[u8], output: &mut [u8], at: usize, cascade: Cascade) -> CascadeAnswer {
+pub(crate) fn answer_cascade(
+    request: CascadeRequest,
+    rest: &[u8],
+    output: &mut [u8],
+    at: usize,
+    cascade: Cascade,
+) -> CascadeAnswer {
     match request {
         CascadeRequest::Design(kind) => answer_design(kind, rest, output, at, cascade),
         CascadeRequest::Step => answer_step(rest, output, at, cascade),

@@ -30,7 +30,12 @@ fn value(function: Function, x: f64) -> f64 {
     }
 }
 
-pub(crate) fn answer_function(function: Function, rest: &[u8], output: &mut [u8], at: usize) -> usize {
+pub(crate) fn answer_function(
+    function: Function,
+    rest: &[u8],
+    output: &mut [u8],
+    at: usize,
+) -> usize {
     let p = only_float(rest);
     let fault = p.fault;
     let Fault::None = fault else {

@@ -1,7 +1,7 @@
 // Requests of the current tap record: its designs, ready-made taps, steps, blocks and resets.
-ghost use Prim.Native.Nat.{_≤_};
 use super::blocks::places_before;
 use super::fault::Fault;
+use super::line::token_count;
 use super::parameters::MOST;
 use super::parameters::block_lengths;
 use super::parameters::fir_parameters;
@@ -14,7 +14,6 @@ use super::put::put_fault;
 use super::put::put_floats;
 use super::put::put_refused;
 use super::put::put_reset;
-use super::line::token_count;
 use fir::Made;
 use fir::TapRecord;
 use protocol::put_bytes;
@@ -35,7 +34,12 @@ pub(crate) struct FirAnswer {
 }
 
 // The first `length` taps.
-fn put_taps(output: &mut [u8], at: usize, taps: [f64; TapRecord::MAX_TAPS], length: usize) -> usize {
+fn put_taps(
+    output: &mut [u8],
+    at: usize,
+    taps: [f64; TapRecord::MAX_TAPS],
+    length: usize,
+) -> usize {
     if length > TapRecord::MAX_TAPS {
         return at;
     }
@@ -78,18 +82,29 @@ fn answer_design(rest: &[u8], output: &mut [u8], at: usize, filter: TapRecord) -
     answer_made(windows::design_fir_lp(p.taps, p.cutoff, window), output, at)
 }
 
+// Ready-made taps, as many as `taps` has places.
+fn answer_ready_made(
+    rest: &[u8],
+    taps: &mut [f64],
+    output: &mut [u8],
+    at: usize,
+    filter: TapRecord,
+) -> FirAnswer {
+    let read = read_floats(rest, 0, taps);
+    let fault = read.fault;
+    let Fault::None = fault else {
+        return answer_fault(fault, output, at, filter);
+    };
+    answer_made(TapRecord::from_coeffs(taps), output, at)
+}
+
 fn answer_taps(rest: &[u8], output: &mut [u8], at: usize, filter: TapRecord) -> FirAnswer {
     let n = token_count(rest);
     if n > MOST {
         return answer_fault(Fault::TooManySamples, output, at, filter);
     }
     let mut taps = [0.0; MOST];
-    let read = read_floats(rest, 0, &mut taps[..n]);
-    let fault = read.fault;
-    let Fault::None = fault else {
-        return answer_fault(fault, output, at, filter);
-    };
-    answer_made(TapRecord::from_coeffs(&taps[..n]), output, at)
+    answer_ready_made(rest, &mut taps[..n], output, at, filter)
 }
 
 fn answer_step(rest: &[u8], output: &mut [u8], at: usize, filter: TapRecord) -> FirAnswer {
@@ -107,6 +122,22 @@ fn answer_step(rest: &[u8], output: &mut [u8], at: usize, filter: TapRecord) -> 
     }
 }
 
+// The block of these samples, into these places.
+fn answer_samples(
+    samples: &[f64],
+    places: &mut [f64],
+    output: &mut [u8],
+    at: usize,
+    filter: TapRecord,
+) -> FirAnswer {
+    let b = filter.block(samples, places);
+    let after = b.filter;
+    FirAnswer {
+        at: put_block(output, at, b.refusal, b.clouded, places),
+        filter: after,
+    }
+}
+
 fn answer_block(rest: &[u8], output: &mut [u8], at: usize, filter: TapRecord) -> FirAnswer {
     let mut input = [0.0; MOST];
     let b = block_lengths(rest, &mut input);
@@ -117,12 +148,7 @@ fn answer_block(rest: &[u8], output: &mut [u8], at: usize, filter: TapRecord) ->
     let m = b.samples;
     let l = b.places;
     let mut places = places_before();
-    let d = filter.block(&input[..m], &mut places[..l]);
-    let after = d.filter;
-    FirAnswer {
-        at: put_block(output, at, d.refusal, d.clouded, &places[..l]),
-        filter: after,
-    }
+    answer_samples(&input[..m], &mut places[..l], output, at, filter)
 }
 
 fn answer_reset(rest: &[u8], output: &mut [u8], at: usize, filter: TapRecord) -> FirAnswer {
@@ -138,7 +164,13 @@ fn answer_reset(rest: &[u8], output: &mut [u8], at: usize, filter: TapRecord) ->
     }
 }
 
-pub(crate) fn answer_filter(request: FirRequest, rest: &[u8], output: &mut [u8], at: usize, filter: TapRecord) -> FirAnswer {
+pub(crate) fn answer_filter(
+    request: FirRequest,
+    rest: &[u8],
+    output: &mut [u8],
+    at: usize,
+    filter: TapRecord,
+) -> FirAnswer {
     match request {
         FirRequest::Design => answer_design(rest, output, at, filter),
         FirRequest::Taps => answer_taps(rest, output, at, filter),

@@ -1,6 +1,4 @@
 // The tokens of a line.
-ghost use Prim.Native.Nat.{_≤_};
-ghost use lib.ListN.{length};
 use protocol::Span;
 use protocol::next_token;
 

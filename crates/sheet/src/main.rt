@@ -1,6 +1,6 @@
 // The program `sheet`: reads request lines on standard input to its end and writes one answer line for each to standard
 // output.
-ghost use Prim.Native.Nat.{_≤_, _<_};
+ghost use Prim.Native.Nat.{_≤_};
 ghost use lib.ListN.{length};
 
 mod answer;
@@ -132,10 +132,11 @@ fn answer_chunk(chunk: &[u8], line: &mut [u8], output: &mut [u8], s: Session) ->
     while at < chunk.len() {
         let end = line_end(chunk, at);
         s.held = hold(line, s.held, &chunk[at..end]);
-        if end < chunk.len() {
-            let n = without_cr(line, s.held);
-            s = answer_held(line, n, output, s);
+        if end >= chunk.len() {
+            return write_waiting(output, s);
         }
+        let n = without_cr(line, s.held);
+        s = answer_held(line, n, output, s);
         at = end + 1;
     }
     write_waiting(output, s)
@@ -144,11 +145,8 @@ fn answer_chunk(chunk: &[u8], line: &mut [u8], output: &mut [u8], s: Session) ->
 // At the end of the input: the last line, which may lack its LF.
 fn finish(line: &[u8], output: &mut [u8], s: Session) -> Session {
     let n = s.held;
-    let mut s = s;
-    if n > 0 {
-        s = answer_held(line, n, output, s);
-    }
-    s = write_waiting(output, s);
+    let s = answer_held(line, n, output, s);
+    let mut s = write_waiting(output, s);
     s.reading = false;
     s
 }

@@ -1,6 +1,7 @@
 // The numbers of a request, from the rest of its line after the word. Each function returns the first fault in the order
 // of the protocol's tests, or none.
 ghost use Prim.Native.Nat.{_≤_};
+ghost use lib.ListN.{length};
 use super::fault::Fault;
 use super::line::bytes_of;
 use super::line::token_count;
@@ -229,7 +230,8 @@ fn with_places(rest: &[u8], from: usize, samples: usize) -> Lengths
 }
 
 // The number of samples, the samples, which go into the first places of `input`, and the length of the output.
-pub(crate) fn block_lengths(rest: &[u8], input: &mut [f64; MOST]) -> Lengths
+pub(crate) fn block_lengths(rest: &[u8], input: &mut [f64]) -> Lengths
+    requires { ⌜ 256 ≤ length (now input) ⌝ }
     ensures { λ r. ⌜ (r .samples ≤ 256) × (r .places ≤ 256) ⌝ }
 {
     let tokens = token_count(rest);

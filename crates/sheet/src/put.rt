@@ -59,7 +59,13 @@ pub(crate) fn put_answer(output: &mut [u8], at: usize, answer: Answer) -> usize 
 }
 
 // What a block answers: its refusal or its number of clouded answers, and the output's places after the call.
-pub(crate) fn put_block(output: &mut [u8], at: usize, refusal: u8, clouded: usize, places: &[f64]) -> usize {
+pub(crate) fn put_block(
+    output: &mut [u8],
+    at: usize,
+    refusal: u8,
+    clouded: usize,
+    places: &[f64],
+) -> usize {
     if refusal != 0 {
         let at = put_refused(output, at, refusal);
         return put_floats(output, at, places);
