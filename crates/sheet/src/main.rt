@@ -19,6 +19,7 @@ use answer::Records;
 use answer::answer_fault;
 use answer::answer_line;
 use fault::Fault;
+use libc::STDERR_FILENO;
 use libc::STDIN_FILENO;
 use libc::STDOUT_FILENO;
 
@@ -94,7 +95,7 @@ fn write_waiting(output: &[u8], s: Session) -> Session {
             return s;
         }
     }
-    os::fail(b"standard output");
+    io::write_all(STDERR_FILENO, b"sheet: standard output cannot be written\n");
     s.reading = false;
     s
 }
@@ -155,7 +156,7 @@ fn finish(line: &[u8], output: &mut [u8], s: Session) -> Session {
 fn read_some(chunk: &mut [u8], line: &mut [u8], output: &mut [u8], s: Session) -> Session {
     let got = libc::read(STDIN_FILENO, chunk);
     if got < 0 {
-        os::fail(b"standard input");
+        io::write_all(STDERR_FILENO, b"sheet: standard input cannot be read\n");
         return finish(line, output, s);
     }
     let n = io::count(got, chunk);

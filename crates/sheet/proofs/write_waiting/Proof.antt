@@ -15,11 +15,11 @@ write-all-requires c κs = search needs
 returns : tie.Need-returns
 returns c = search needs
 
-slice-aggregate-fail : tie.Need-slice-aggregate-fail
-slice-aggregate-fail c = search needs
+slice-aggregate-write-all-2 : tie.Need-slice-aggregate-write-all-2
+slice-aggregate-write-all-2 c = search needs
 
-fail-requires : tie.Need-fail-requires
-fail-requires c κs = search needs
+write-all-requires-2 : tie.Need-write-all-requires-2
+write-all-requires-2 c κs = search needs
 
 returns-2 : tie.Need-returns-2
 returns-2 c = search needs
@@ -31,6 +31,6 @@ write-waiting-spec =
     slice-aggregate-write-all
     write-all-requires
     returns
-    slice-aggregate-fail
-    fail-requires
+    slice-aggregate-write-all-2
+    write-all-requires-2
     returns-2)

@@ -1,50 +1,49 @@
+use Rattle.protocol.proofs.Numbers.{result-small}
+use mathlib.Core.Logic.{⊎-elim}
+use Rattle.protocol.proofs.Numbers.{digit-small}
+-- `protocol::number::decimal_after` meets its contract. Assumes nothing.
+use Prim.Native.Nat.{_-_}
+use mathlib.Core.Path.{refl}
+use lib.ListN.{length}
+use native.Mathlib.Omega.{arith}
+use Rattle.protocol.proofs.Numbers.{Capping, cap-turn, cap-done}
+use borrow.Author.Needs.{needs}
 use Rattle.protocol.proofs.number.decimal_after.Statement.{statement}
 use Rattle.protocol.proofs.number.decimal_after.Tie as tie
-use Rattle.protocol.proofs.number.decimal_after.Reads as reads
-use Rattle.protocol.proofs.number.decimal_after.Lts as lts
-use Rattle.protocol.proofs.number.digit.Reads as digit-reads
 
 abbrev Inv-loop : tie.InvT-loop
-Inv-loop n digits value₀ i₀ value i = ?
+Inv-loop n digits value₀ i₀ value i = Capping n digits value i
 
 abbrev μ-loop : tie.MeasureT-loop
-μ-loop n digits value₀ i₀ value i = ?
+μ-loop n digits value₀ i₀ value i = length digits - i
 
--- src/number.rt:92:5
 loop-holds : tie.Need-loop-holds Inv-loop μ-loop
-loop-holds c = ?
+loop-holds c = (search needs, refl)
 
--- src/number.rt:93:17
 mul-value : tie.Need-mul-value Inv-loop μ-loop
-mul-value c = ?
+mul-value c = search needs
 
--- src/number.rt:93:36
 shared-slice-read-digit : tie.Need-shared-slice-read-digit Inv-loop μ-loop
-shared-slice-read-digit c = ?
+shared-slice-read-digit c = search needs
 
--- src/number.rt:93:30
 digit-requires : tie.Need-digit-requires Inv-loop μ-loop
-digit-requires c κs = ?
+digit-requires c κs = search needs
 
--- src/number.rt:93:17
 add-value : tie.Need-add-value Inv-loop μ-loop
-add-value c = ?
+add-value c = omega (arith, result-small _ (c .digit .ensures), c .before .before .before .loop .inv .0)
 
--- src/number.rt:97:9
 add-i : tie.Need-add-i Inv-loop μ-loop
-add-i c = ?
+add-i c = search needs
 
--- src/number.rt:92:5
 loop-less : tie.Need-loop-less Inv-loop μ-loop
-loop-less c = ?
+loop-less c = search needs
 
--- src/number.rt:92:5
 loop-again : tie.Need-loop-again Inv-loop μ-loop
-loop-again c = ?
+loop-again c = let e = c .before .before .before in
+    cap-turn _ _ _ _ (e .loop-test .taken) (⊎-elim (λ w. omega (arith, c .before .digit .ensures)) (λ w. omega (arith, c .before .digit .ensures)) (c .if1 .came)) (e .before .loop .inv)
 
--- src/number.rt:86:1
 returns : tie.Need-returns Inv-loop μ-loop
-returns c = ?
+returns c = cap-done _ _ _ _ (c .loop-test .left) (c .before .loop .inv)
 
 pub decimal-after-spec : {M : Type 1} → statement M
 decimal-after-spec =

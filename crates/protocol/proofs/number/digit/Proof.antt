@@ -1,61 +1,54 @@
+use native.Mathlib.Omega.{arith}
+-- `protocol::number::digit` meets its contract. Assumes nothing.
+use mathlib.Core.Path.{sym, _∙_}
+use Rattle.protocol.specs.Numbers.{digit}
+use Rattle.protocol.proofs.Numbers.{at-least}
 use borrow.Author.Needs.{needs}
 use Rattle.protocol.proofs.number.digit.Statement.{statement}
 use Rattle.protocol.proofs.number.digit.Tie as tie
-use Rattle.protocol.proofs.number.digit.Reads as reads
-use Rattle.protocol.proofs.number.digit.Lts as lts
-use Rattle.protocol.proofs.token.between.Reads as between-reads
 
--- src/number.rt:59:8
 between-requires : tie.Need-between-requires
 between-requires c κs = search needs
 
--- src/number.rt:60:17
 sub-result : tie.Need-sub-result
-sub-result c = ?
+sub-result c = at-least 48 57 _ (sym (c .before .between .ensures) ∙ c .if1 .taken)
 
--- src/number.rt:60:16
 cast-result : tie.Need-cast-result
 cast-result c = search needs
 
--- src/number.rt:60:9
 returns : tie.Need-returns
-returns c = ?
+unfolding digit
+returns c = rw (← c .before .between .ensures, c .if1 .taken)
 
--- src/number.rt:62:8
 between-requires-2 : tie.Need-between-requires-2
 between-requires-2 c κs = search needs
 
--- src/number.rt:63:17
 sub-result-2 : tie.Need-sub-result-2
-sub-result-2 c = ?
+sub-result-2 c = omega (arith, at-least 65 70 _ (sym (c .before .between2 .ensures) ∙ c .if2 .taken))
 
--- src/number.rt:63:16
 cast-result-2 : tie.Need-cast-result-2
 cast-result-2 c = search needs
 
--- src/number.rt:63:9
 returns-2 : tie.Need-returns-2
-returns-2 c = ?
+unfolding digit
+returns-2 c = let e = c .before .before in rw (← e .before .between .ensures, e .if1 .left, ← c .before .between2 .ensures, c .if2 .taken)
 
--- src/number.rt:65:8
 between-requires-3 : tie.Need-between-requires-3
 between-requires-3 c κs = search needs
 
--- src/number.rt:66:17
 sub-result-3 : tie.Need-sub-result-3
-sub-result-3 c = ?
+sub-result-3 c = omega (arith, at-least 97 102 _ (sym (c .before .between3 .ensures) ∙ c .if3 .taken))
 
--- src/number.rt:66:16
 cast-result-3 : tie.Need-cast-result-3
 cast-result-3 c = search needs
 
--- src/number.rt:66:9
 returns-3 : tie.Need-returns-3
-returns-3 c = ?
+unfolding digit
+returns-3 c = let e = c .before .before in let d = e .before .before in rw (← d .before .between .ensures, d .if1 .left, ← e .before .between2 .ensures, e .if2 .left, ← c .before .between3 .ensures, c .if3 .taken)
 
--- src/number.rt:56:1
 returns-4 : tie.Need-returns-4
-returns-4 c = ?
+unfolding digit
+returns-4 c = let e = c .before .before in let d = e .before .before in rw (← d .before .between .ensures, d .if1 .left, ← e .before .between2 .ensures, e .if2 .left, ← c .before .between3 .ensures, c .if3 .left)
 
 pub digit-spec : {M : Type 1} → statement M
 digit-spec =

@@ -1,50 +1,45 @@
+-- `protocol::number::hexadecimal` meets its contract. Assumes nothing.
+use Prim.Native.Nat.{_-_}
+use mathlib.Core.Path.{refl}
+use lib.ListN.{length}
+use native.Mathlib.Omega.{arith}
+use Rattle.protocol.proofs.Numbers.{Reading, hex-fits, hex-turn, hex-done}
+use borrow.Author.Needs.{needs}
 use Rattle.protocol.proofs.number.hexadecimal.Statement.{statement}
 use Rattle.protocol.proofs.number.hexadecimal.Tie as tie
-use Rattle.protocol.proofs.number.hexadecimal.Reads as reads
-use Rattle.protocol.proofs.number.hexadecimal.Lts as lts
-use Rattle.protocol.proofs.number.digit.Reads as digit-reads
 
 abbrev Inv-loop : tie.InvT-loop
-Inv-loop digits value₀ i₀ value i = ?
+Inv-loop digits value₀ i₀ value i = Reading digits value i
 
 abbrev μ-loop : tie.MeasureT-loop
-μ-loop digits value₀ i₀ value i = ?
+μ-loop digits value₀ i₀ value i = length digits - i
 
--- src/number.rt:78:5
 loop-holds : tie.Need-loop-holds Inv-loop μ-loop
-loop-holds c = ?
+loop-holds c = refl
 
--- src/number.rt:79:17
 mul-value : tie.Need-mul-value Inv-loop μ-loop
-mul-value c = ?
+mul-value c = omega (arith, hex-fits _ _ _ (c .before .before .before .pre) (c .loop-test .taken) (c .before .loop .inv))
 
--- src/number.rt:79:36
 shared-slice-read-digit : tie.Need-shared-slice-read-digit Inv-loop μ-loop
-shared-slice-read-digit c = ?
+shared-slice-read-digit c = search needs
 
--- src/number.rt:79:30
 digit-requires : tie.Need-digit-requires Inv-loop μ-loop
-digit-requires c κs = ?
+digit-requires c κs = search needs
 
--- src/number.rt:79:17
 add-value : tie.Need-add-value Inv-loop μ-loop
-add-value c = ?
+add-value c = let e = c .before .before in omega (arith, hex-fits _ _ _ (e .before .before .before .pre) (e .loop-test .taken) (e .before .loop .inv), c .digit .ensures)
 
--- src/number.rt:80:9
 add-i : tie.Need-add-i Inv-loop μ-loop
-add-i c = ?
+add-i c = search needs
 
--- src/number.rt:78:5
 loop-less : tie.Need-loop-less Inv-loop μ-loop
-loop-less c = ?
+loop-less c = search needs
 
--- src/number.rt:78:5
 loop-again : tie.Need-loop-again Inv-loop μ-loop
-loop-again c = ?
+loop-again c = let e = c .before .before in rw (c .digit .ensures) (hex-turn _ _ _ (e .loop-test .taken) (e .before .loop .inv))
 
--- src/number.rt:72:1
 returns : tie.Need-returns Inv-loop μ-loop
-returns c = ?
+returns c = hex-done _ _ _ (c .loop-test .left) (c .before .loop .inv)
 
 pub hexadecimal-spec : {M : Type 1} → statement M
 hexadecimal-spec =

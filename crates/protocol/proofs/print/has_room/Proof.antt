@@ -1,15 +1,19 @@
+-- `protocol::print::has_room` meets its contract. Assumes nothing.
+use Prim.Native.Nat.{_+_}
+use mathlib.Core.Path.{sym}
+use native.Mathlib.Omega.{arith}
+use borrow.Author.Tests.{lt-leb}
+use Rattle.protocol.proofs.Texts.{room}
 use Rattle.protocol.proofs.print.has_room.Statement.{statement}
 use Rattle.protocol.proofs.print.has_room.Tie as tie
-use Rattle.protocol.proofs.print.has_room.Reads as reads
-use Rattle.protocol.proofs.print.has_room.Lts as lts
 
--- src/print.rt:14:9
 returns : tie.Need-returns
-returns c = ?
+returns c = let a = c .before .args in
+    sym (lt-leb (a .at + a .n) (a .length) (omega arith))
 
--- src/print.rt:10:1
 returns-2 : tie.Need-returns-2
-returns-2 c = ?
+returns-2 c = let a = c .before .args in
+    room (a .length) (a .at) (a .n) (omega arith)
 
 pub has-room-spec : {M : Type 1} → statement M
 has-room-spec = tie.close (tie.spec returns returns-2)

@@ -1,33 +1,29 @@
+-- `protocol::print::places` meets its contract. Assumes nothing.
+use native.Mathlib.Omega.{arith}
+use Rattle.protocol.proofs.Texts.{Counting, count-start, count-turn, count-done}
 use Rattle.protocol.proofs.print.places.Statement.{statement}
 use Rattle.protocol.proofs.print.places.Tie as tie
-use Rattle.protocol.proofs.print.places.Reads as reads
-use Rattle.protocol.proofs.print.places.Lts as lts
 
 abbrev Inv-loop : tie.InvT-loop
-Inv-loop n k₀ rest₀ k rest = ?
+Inv-loop n k₀ rest₀ k rest = Counting n k rest
 
 abbrev μ-loop : tie.MeasureT-loop
-μ-loop n k₀ rest₀ k rest = ?
+μ-loop n k₀ rest₀ k rest = rest
 
--- src/print.rt:77:5
 loop-holds : tie.Need-loop-holds Inv-loop μ-loop
-loop-holds c = ?
+loop-holds c = count-start (c .args .n)
 
--- src/print.rt:79:9
 add-k : tie.Need-add-k Inv-loop μ-loop
-add-k c = ?
+add-k c = omega arith
 
--- src/print.rt:77:5
 loop-less : tie.Need-loop-less Inv-loop μ-loop
-loop-less c = ?
+loop-less c = omega arith
 
--- src/print.rt:77:5
 loop-again : tie.Need-loop-again Inv-loop μ-loop
-loop-again c = ?
+loop-again c = count-turn (c .before .before .args .n) (c .before .loop .k) (c .before .loop .rest) (omega arith) (c .before .loop .inv)
 
--- src/print.rt:72:1
 returns : tie.Need-returns Inv-loop μ-loop
-returns c = ?
+returns c = count-done (c .before .before .args .n) (c .before .loop .k) (c .before .loop .rest) (omega arith) (c .before .loop .inv)
 
 pub places-spec : {M : Type 1} → statement M
 places-spec = tie.close (tie.spec Inv-loop μ-loop loop-holds add-k loop-less loop-again returns)

@@ -1,66 +1,63 @@
+-- `protocol::print::put_bytes` meets its contract. Assumes nothing.
+use Prim.Native.Nat.{_≤_, _+_, _-_}
+use mathlib.Core.Path.{refl, sym, _∙_}
+use native.Mathlib.Omega.{arith}
+use lib.ListN.{length}
+use borrow.Author.Tests.{not-true, not-false, leb-true}
+use Rattle.protocol.proofs.Texts.{left-out, Putting, put-start, put-turn, put-done}
 use Rattle.protocol.proofs.print.put_bytes.Statement.{statement}
 use Rattle.protocol.proofs.print.put_bytes.Tie as tie
-use Rattle.protocol.proofs.print.put_bytes.Reads as reads
-use Rattle.protocol.proofs.print.put_bytes.Lts as lts
-use Rattle.protocol.proofs.print.has_room.Reads as has-room-reads
 
 abbrev Inv-loop : tie.InvT-loop
-Inv-loop output₀ at text i₀ output i = ?
+Inv-loop output₀ at text i₀ output i = (i ≤ length text) × (at + length text ≤ length output₀) × Putting output₀ at text output i
 
 abbrev μ-loop : tie.MeasureT-loop
-μ-loop output₀ at text i₀ output i = ?
+μ-loop output₀ at text i₀ output i = length text - i
 
--- src/print.rt:23:9
 has-room-requires : tie.Need-has-room-requires Inv-loop μ-loop
-has-room-requires c κs = ?
+has-room-requires c κs = tt
 
--- src/print.rt:24:16
 add-result : tie.Need-add-result Inv-loop μ-loop
-add-result c = ?
+add-result c = omega arith
 
--- src/print.rt:24:9
 returns : tie.Need-returns Inv-loop μ-loop
-returns c = ?
+returns c = let a = c .before .before .before .before .args in
+    left-out (a .output .now) (a .at) (a .text .now) (length (a .text .now)) refl (sym (c .before .has-room .ensures) ∙ not-true _ (c .if1 .taken))
 
--- src/print.rt:27:5
 loop-holds : tie.Need-loop-holds Inv-loop μ-loop
-loop-holds c = ?
+loop-holds c = let a = c .before .before .before .before .args in
+    (omega arith, leb-true _ _ (sym (c .before .has-room .ensures) ∙ not-false _ (c .if1 .left)), put-start (a .output .now) (a .at) (a .text .now))
 
--- src/print.rt:28:26
 shared-slice-read-output : tie.Need-shared-slice-read-output Inv-loop μ-loop
-shared-slice-read-output c = ?
+shared-slice-read-output c = omega arith
 
--- src/print.rt:28:16
 add-output : tie.Need-add-output Inv-loop μ-loop
-add-output c = ?
+add-output c = omega arith
 
--- src/print.rt:28:9
 slice-write-output : tie.Need-slice-write-output Inv-loop μ-loop
-slice-write-output c = ?
+slice-write-output c = omega arith
 
--- src/print.rt:29:9
 add-i : tie.Need-add-i Inv-loop μ-loop
-add-i c = ?
+add-i c = omega arith
 
--- src/print.rt:27:5
 loop-less : tie.Need-loop-less Inv-loop μ-loop
-loop-less c = ?
+loop-less c = omega arith
 
--- src/print.rt:27:5
 loop-again : tie.Need-loop-again Inv-loop μ-loop
-loop-again c = ?
+loop-again c = let l = c .before .before in
+    let a = l .before .before .before .before .before .args in
+    (omega arith, l .loop .inv .1, put-turn (a .output .now) (a .at) (a .text .now) (l .loop .output) (l .loop .i) (omega arith) (l .loop .inv .1) (l .loop .inv .2))
 
--- src/print.rt:31:5
 add-result-2 : tie.Need-add-result-2 Inv-loop μ-loop
-add-result-2 c = ?
+add-result-2 c = omega arith
 
--- src/print.rt:19:1
 same-length : tie.Need-same-length Inv-loop μ-loop
-same-length c = ?
+same-length c = omega arith
 
--- src/print.rt:19:1
 returns-2 : tie.Need-returns-2 Inv-loop μ-loop
-returns-2 c = ?
+returns-2 c = let l = c .before in
+    let a = l .before .before .before .before .before .args in
+    put-done (a .output .now) (a .at) (a .text .now) (l .loop .output) (l .loop .i) (omega arith) (l .loop .inv .1) (l .loop .inv .2)
 
 pub put-bytes-spec : {M : Type 1} → statement M
 put-bytes-spec =

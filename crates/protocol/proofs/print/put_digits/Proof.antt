@@ -1,75 +1,74 @@
+-- `protocol::print::put_digits` meets its contract. Assumes nothing.
+use Prim.Native.Nat.{_≤_, _+_}
+use mathlib.Core.Path.{refl, sym, _∙_}
+use native.Mathlib.Nat.{mod-lt, lt-of-lt-of-le}
+use native.Mathlib.Omega.{arith}
+use lib.ListN.{length}
+use borrow.Author.Tests.{not-true, not-false, leb-true}
+use borrow.Author.Needs.{needs}
+use Rattle.protocol.proofs.Texts.{left-out, length-digits, Printing, print-turn, print-done}
 use Rattle.protocol.proofs.print.put_digits.Statement.{statement}
 use Rattle.protocol.proofs.print.put_digits.Tie as tie
-use Rattle.protocol.proofs.print.put_digits.Reads as reads
-use Rattle.protocol.proofs.print.put_digits.Lts as lts
-use Rattle.protocol.proofs.print.glyph.Reads as glyph-reads
-use Rattle.protocol.proofs.print.has_room.Reads as has-room-reads
 
 abbrev Inv-loop : tie.InvT-loop
-Inv-loop output₀ at base k n i₀ rest₀ output i rest = ?
+Inv-loop output₀ at base k n i₀ rest₀ output i rest = (i ≤ k) × (at + k ≤ length output₀) × Printing output₀ at base k n output i rest
 
 abbrev μ-loop : tie.MeasureT-loop
-μ-loop output₀ at base k n i₀ rest₀ output i rest = ?
+μ-loop output₀ at base k n i₀ rest₀ output i rest = i
 
--- src/print.rt:46:9
 has-room-requires : tie.Need-has-room-requires Inv-loop μ-loop
-has-room-requires c κs = ?
+has-room-requires c κs = tt
 
--- src/print.rt:47:16
 add-result : tie.Need-add-result Inv-loop μ-loop
-add-result c = ?
+add-result c = omega arith
 
--- src/print.rt:47:9
 returns : tie.Need-returns Inv-loop μ-loop
-returns c = ?
+returns c = let a = c .before .before .before .args in
+    left-out (a .output .now) (a .at) _ (a .k) (length-digits (a .base) (a .k) (a .n)) (sym (c .before .has-room .ensures) ∙ not-true _ (c .if1 .taken))
 
--- src/print.rt:51:5
 loop-holds : tie.Need-loop-holds Inv-loop μ-loop
-loop-holds c = ?
+loop-holds c = (omega arith, leb-true _ _ (sym (c .before .has-room .ensures) ∙ not-false _ (c .if1 .left)), (refl, refl))
 
--- src/print.rt:52:9
 sub-i : tie.Need-sub-i Inv-loop μ-loop
-sub-i c = ?
+sub-i c = omega arith
 
--- src/print.rt:53:32
 rem-glyph : tie.Need-rem-glyph Inv-loop μ-loop
-rem-glyph c = ?
+rem-glyph c = search needs
 
--- src/print.rt:53:26
 glyph-requires : tie.Need-glyph-requires Inv-loop μ-loop
-glyph-requires c κs = ?
+glyph-requires c κs = let s = c .before .before .before .before .before in
+    lt-of-lt-of-le (mod-lt _ (s .pre .0)) (s .pre .1)
 
--- src/print.rt:53:16
 add-output : tie.Need-add-output Inv-loop μ-loop
-add-output c = ?
+add-output c = omega arith
 
--- src/print.rt:53:9
 slice-write-output : tie.Need-slice-write-output Inv-loop μ-loop
-slice-write-output c = ?
+slice-write-output c = omega arith
 
--- src/print.rt:54:16
 div-rest : tie.Need-div-rest Inv-loop μ-loop
-div-rest c = ?
+div-rest c = search needs
 
--- src/print.rt:51:5
 loop-less : tie.Need-loop-less Inv-loop μ-loop
-loop-less c = ?
+loop-less c = omega arith
 
--- src/print.rt:51:5
 loop-again : tie.Need-loop-again Inv-loop μ-loop
-loop-again c = ?
+loop-again c = let l = c .before .before in
+    let a = l .before .before .before .before .args in (
+      omega arith,
+      l .loop .inv .1,
+      print-turn (a .output .now) (a .at) (a .base) (a .k) (a .n) (l .loop .output) (l .loop .i) (l .loop .rest) (omega arith) (omega arith) (l .loop .inv .1) (c .glyph .ensures) (l .loop .inv .2),
+    )
 
--- src/print.rt:56:5
 add-result-2 : tie.Need-add-result-2 Inv-loop μ-loop
-add-result-2 c = ?
+add-result-2 c = omega arith
 
--- src/print.rt:42:1
 same-length : tie.Need-same-length Inv-loop μ-loop
-same-length c = ?
+same-length c = omega arith
 
--- src/print.rt:42:1
 returns-2 : tie.Need-returns-2 Inv-loop μ-loop
-returns-2 c = ?
+returns-2 c = let l = c .before in
+    let a = l .before .before .before .before .args in
+    print-done (a .output .now) (a .at) (a .base) (a .k) (a .n) (l .loop .output) (l .loop .i) (l .loop .rest) (omega arith) (l .loop .inv .1) (l .loop .inv .2)
 
 pub put-digits-spec : {M : Type 1} → statement M
 put-digits-spec =

@@ -1,15 +1,16 @@
+-- `protocol::token::between` meets its contract. Assumes nothing.
+use borrow.Author.Tests.{lt-leb, le-leb}
+use Rattle.protocol.specs.Tokens.{between}
 use Rattle.protocol.proofs.token.between.Statement.{statement}
 use Rattle.protocol.proofs.token.between.Tie as tie
-use Rattle.protocol.proofs.token.between.Reads as reads
-use Rattle.protocol.proofs.token.between.Lts as lts
 
--- src/token.rt:24:9
 returns : tie.Need-returns
-returns c = ?
+unfolding between
+returns c = simp (lt-leb _ _ (c .if1 .taken))
 
--- src/token.rt:20:1
 returns-2 : tie.Need-returns-2
-returns-2 c = ?
+unfolding between
+returns-2 c = simp (le-leb _ _ (c .if1 .left))
 
 pub between-spec : {M : Type 1} → statement M
 between-spec = tie.close (tie.spec returns returns-2)

@@ -1,33 +1,29 @@
+-- `protocol::token::is_hex_digit` meets its contract. Assumes nothing.
+use Rattle.protocol.specs.Tokens.{isHexDigit}
 use borrow.Author.Needs.{needs}
 use Rattle.protocol.proofs.token.is_hex_digit.Statement.{statement}
 use Rattle.protocol.proofs.token.is_hex_digit.Tie as tie
-use Rattle.protocol.proofs.token.is_hex_digit.Reads as reads
-use Rattle.protocol.proofs.token.is_hex_digit.Lts as lts
-use Rattle.protocol.proofs.token.between.Reads as between-reads
 
--- src/token.rt:32:8
 between-requires : tie.Need-between-requires
 between-requires c κs = search needs
 
--- src/token.rt:33:9
 returns : tie.Need-returns
-returns c = ?
+unfolding isHexDigit
+returns c = rw (← c .before .between .ensures, c .if1 .taken)
 
--- src/token.rt:35:8
 between-requires-2 : tie.Need-between-requires-2
 between-requires-2 c κs = search needs
 
--- src/token.rt:36:9
 returns-2 : tie.Need-returns-2
-returns-2 c = ?
+unfolding isHexDigit
+returns-2 c = rw (← c .before .before .before .between .ensures, c .before .before .if1 .left, ← c .before .between2 .ensures, c .if2 .taken)
 
--- src/token.rt:38:5
 between-requires-3 : tie.Need-between-requires-3
 between-requires-3 c κs = search needs
 
--- src/token.rt:29:1
 returns-3 : tie.Need-returns-3
-returns-3 c = ?
+unfolding isHexDigit
+returns-3 c = let e = c .before .before .before in rw (← e .before .between .ensures, e .if1 .left, ← c .before .before .between2 .ensures, c .before .if2 .left) (c .between3 .ensures)
 
 pub is-hex-digit-spec : {M : Type 1} → statement M
 is-hex-digit-spec =

@@ -1,46 +1,43 @@
+-- `protocol::token::run_of` meets its contract. Assumes nothing.
+use Prim.Native.Nat.{_-_}
+use mathlib.Core.Path.{refl, sym, _∙_}
+use borrow.Author.Tests.{not-true, not-false}
+use lib.ListN.{length}
+use Rattle.protocol.specs.Tokens.{inClass}
+use Rattle.protocol.proofs.Tokens.{Running, run-turn, run-found, run-done}
+use borrow.Author.Needs.{needs}
 use Rattle.protocol.proofs.token.run_of.Statement.{statement}
 use Rattle.protocol.proofs.token.run_of.Tie as tie
-use Rattle.protocol.proofs.token.run_of.Reads as reads
-use Rattle.protocol.proofs.token.run_of.Lts as lts
-use Rattle.protocol.proofs.token.is_in.Reads as is-in-reads
 
 abbrev Inv-loop : tie.InvT-loop
-Inv-loop class bytes from i₀ i = ?
+Inv-loop class bytes from i₀ i = Running (inClass class) bytes from i
 
 abbrev μ-loop : tie.MeasureT-loop
-μ-loop class bytes from i₀ i = ?
+μ-loop class bytes from i₀ i = length bytes - i
 
--- src/token.rt:57:5
 loop-holds : tie.Need-loop-holds Inv-loop μ-loop
-loop-holds c = ?
+loop-holds c = refl
 
--- src/token.rt:58:26
 shared-slice-read-is-in : tie.Need-shared-slice-read-is-in Inv-loop μ-loop
-shared-slice-read-is-in c = ?
+shared-slice-read-is-in c = search needs
 
--- src/token.rt:58:13
 is-in-requires : tie.Need-is-in-requires Inv-loop μ-loop
-is-in-requires c κs = ?
+is-in-requires c κs = search needs
 
--- src/token.rt:59:13
 returns : tie.Need-returns Inv-loop μ-loop
-returns c = ?
+returns c = run-found (inClass _) _ _ _ (c .before .before .before .loop-test .taken) (sym (c .before .is-in .ensures) ∙ not-true _ (c .if1 .taken)) (c .before .before .before .before .loop .inv)
 
--- src/token.rt:61:9
 add-i : tie.Need-add-i Inv-loop μ-loop
-add-i c = ?
+add-i c = search needs
 
--- src/token.rt:57:5
 loop-less : tie.Need-loop-less Inv-loop μ-loop
-loop-less c = ?
+loop-less c = search needs
 
--- src/token.rt:57:5
 loop-again : tie.Need-loop-again Inv-loop μ-loop
-loop-again c = ?
+loop-again c = run-turn (inClass _) _ _ _ (c .before .before .before .loop-test .taken) (sym (c .before .is-in .ensures) ∙ not-false _ (c .if1 .left)) (c .before .before .before .before .loop .inv)
 
--- src/token.rt:53:1
 returns-2 : tie.Need-returns-2 Inv-loop μ-loop
-returns-2 c = ?
+returns-2 c = run-done (inClass _) _ _ _ (c .loop-test .left) (c .before .loop .inv)
 
 pub run-of-spec : {M : Type 1} → statement M
 run-of-spec =

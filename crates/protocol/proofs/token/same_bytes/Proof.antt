@@ -1,49 +1,44 @@
+-- `protocol::token::same_bytes` meets its contract. Assumes nothing.
+use Prim.Native.Nat.{_-_}
+use mathlib.Core.Path.{refl}
+use lib.ListN.{length}
+use Rattle.protocol.proofs.Tokens.{Comparing, same-turn, same-differ, same-done, same-lengths}
+use borrow.Author.Needs.{needs}
 use Rattle.protocol.proofs.token.same_bytes.Statement.{statement}
 use Rattle.protocol.proofs.token.same_bytes.Tie as tie
-use Rattle.protocol.proofs.token.same_bytes.Reads as reads
-use Rattle.protocol.proofs.token.same_bytes.Lts as lts
 
 abbrev Inv-loop : tie.InvT-loop
-Inv-loop a b i₀ i = ?
+Inv-loop a b i₀ i = Comparing a b i
 
 abbrev μ-loop : tie.MeasureT-loop
-μ-loop a b i₀ i = ?
+μ-loop a b i₀ i = length a - i
 
--- src/token.rt:79:9
 returns : tie.Need-returns Inv-loop μ-loop
-returns c = ?
+returns c = same-lengths _ _ (c .if1 .taken)
 
--- src/token.rt:82:5
 loop-holds : tie.Need-loop-holds Inv-loop μ-loop
-loop-holds c = ?
+loop-holds c = refl
 
--- src/token.rt:83:12
 shared-slice-read-if2 : tie.Need-shared-slice-read-if2 Inv-loop μ-loop
-shared-slice-read-if2 c = ?
+shared-slice-read-if2 c = search needs
 
--- src/token.rt:83:20
 shared-slice-read-if2-2 : tie.Need-shared-slice-read-if2-2 Inv-loop μ-loop
-shared-slice-read-if2-2 c = ?
+shared-slice-read-if2-2 c = search needs
 
--- src/token.rt:84:13
 returns-2 : tie.Need-returns-2 Inv-loop μ-loop
-returns-2 c = ?
+returns-2 c = let e = c .before .before .before in same-differ _ _ _ (e .loop-test .taken) (e .before .before .if1 .left) (c .if2 .taken) (e .before .loop .inv)
 
--- src/token.rt:86:9
 add-i : tie.Need-add-i Inv-loop μ-loop
-add-i c = ?
+add-i c = search needs
 
--- src/token.rt:82:5
 loop-less : tie.Need-loop-less Inv-loop μ-loop
-loop-less c = ?
+loop-less c = search needs
 
--- src/token.rt:82:5
 loop-again : tie.Need-loop-again Inv-loop μ-loop
-loop-again c = ?
+loop-again c = let e = c .before .before .before in same-turn _ _ _ (e .loop-test .taken) (e .before .before .if1 .left) (c .if2 .left) (e .before .loop .inv)
 
--- src/token.rt:75:1
 returns-3 : tie.Need-returns-3 Inv-loop μ-loop
-returns-3 c = ?
+returns-3 c = same-done _ _ _ (c .loop-test .left) (c .before .before .if1 .left) (c .before .loop .inv)
 
 pub same-bytes-spec : {M : Type 1} → statement M
 same-bytes-spec =
