@@ -1,0 +1,259 @@
+// The numbers of a request, from the rest of its line after the word. Each function returns the first fault in the order
+// of the protocol's tests, or none.
+ghost use Prim.Native.Nat.{_≤_};
+ghost use lib.ListN.{length};
+use super::fault::Fault;
+use super::line::bytes_of;
+use super::line::token_count;
+use super::words::WindowName;
+use super::words::window_of;
+use protocol::CountToken;
+use protocol::FloatToken;
+use protocol::count_token;
+use protocol::float_token;
+use protocol::next_token;
+use windows::WindowType;
+
+// The most samples of a block, places of its output, and ready-made taps of a line.
+pub(crate) const MOST: usize = 256;
+
+pub(crate) struct OneFloat {
+    pub(crate) fault: Fault,
+    pub(crate) x: f64,
+}
+
+// A count, and the place after it.
+struct OneCount {
+    fault: Fault,
+    n: usize,
+    after: usize,
+}
+
+// The place after floats that were read.
+pub(crate) struct Floats {
+    pub(crate) fault: Fault,
+    pub(crate) after: usize,
+}
+
+// What a cascade design takes: its order and up to three floats.
+pub(crate) struct OrderAndFloats {
+    pub(crate) fault: Fault,
+    pub(crate) order: usize,
+    pub(crate) a: f64,
+    pub(crate) b: f64,
+    pub(crate) c: f64,
+}
+
+// What a FIR design takes.
+pub(crate) struct FirParameters {
+    pub(crate) fault: Fault,
+    pub(crate) taps: usize,
+    pub(crate) cutoff: f64,
+    pub(crate) window: WindowType,
+}
+
+// How many samples a block has, and how many places its output.
+pub(crate) struct Lengths {
+    pub(crate) fault: Fault,
+    pub(crate) samples: usize,
+    pub(crate) places: usize,
+}
+
+// That nothing is given.
+pub(crate) fn rest_fault(rest: &[u8]) -> Fault {
+    if token_count(rest) != 0 {
+        return Fault::TokenCount;
+    }
+    Fault::None
+}
+
+pub(crate) fn only_float(rest: &[u8]) -> OneFloat {
+    if token_count(rest) != 1 {
+        return OneFloat {
+            fault: Fault::TokenCount,
+            x: 0.0,
+        };
+    }
+    match float_token(bytes_of(rest, next_token(rest, 0))) {
+        FloatToken::Number(x) => OneFloat {
+            fault: Fault::None,
+            x,
+        },
+        FloatToken::NotANumber => OneFloat {
+            fault: Fault::BadNumber,
+            x: 0.0,
+        },
+    }
+}
+
+fn next_count(rest: &[u8], from: usize) -> OneCount {
+    let token = next_token(rest, from);
+    match count_token(bytes_of(rest, token)) {
+        CountToken::Count(n) => OneCount {
+            fault: Fault::None,
+            n: n as usize,
+            after: token.end,
+        },
+        CountToken::NotACount => OneCount {
+            fault: Fault::BadNumber,
+            n: 0,
+            after: token.end,
+        },
+    }
+}
+
+// As many floats as `numbers` has places.
+pub(crate) fn read_floats(rest: &[u8], from: usize, numbers: &mut [f64]) -> Floats {
+    let mut after = from;
+    let mut i: usize = 0;
+    while i < numbers.len() {
+        let token = next_token(rest, after);
+        after = token.end;
+        match float_token(bytes_of(rest, token)) {
+            FloatToken::Number(x) => {
+                numbers[i] = x;
+            }
+            FloatToken::NotANumber => {
+                return Floats {
+                    fault: Fault::BadNumber,
+                    after,
+                };
+            }
+        }
+        i += 1;
+    }
+    Floats {
+        fault: Fault::None,
+        after,
+    }
+}
+
+fn no_order(fault: Fault) -> OrderAndFloats {
+    OrderAndFloats {
+        fault,
+        order: 0,
+        a: 0.0,
+        b: 0.0,
+        c: 0.0,
+    }
+}
+
+// An order and k floats.
+pub(crate) fn order_and_floats(rest: &[u8], k: usize) -> OrderAndFloats
+    requires { ⌜ k ≤ 3 ⌝ }
+{
+    if token_count(rest) != k + 1 {
+        return no_order(Fault::TokenCount);
+    }
+    let order = next_count(rest, 0);
+    let fault = order.fault;
+    let Fault::None = fault else {
+        return no_order(fault);
+    };
+    let mut numbers = [0.0; 3];
+    let read = read_floats(rest, order.after, &mut numbers[..k]);
+    let fault = read.fault;
+    OrderAndFloats {
+        fault,
+        order: order.n,
+        a: numbers[0],
+        b: numbers[1],
+        c: numbers[2],
+    }
+}
+
+fn no_taps(fault: Fault) -> FirParameters {
+    FirParameters {
+        fault,
+        taps: 0,
+        cutoff: 0.0,
+        window: WindowType::Rectangular,
+    }
+}
+
+// The number of taps, the cutoff and the window.
+pub(crate) fn fir_parameters(rest: &[u8]) -> FirParameters {
+    if token_count(rest) != 3 {
+        return no_taps(Fault::TokenCount);
+    }
+    let taps = next_count(rest, 0);
+    let fault = taps.fault;
+    let Fault::None = fault else {
+        return no_taps(fault);
+    };
+    let mut numbers = [0.0; 1];
+    let read = read_floats(rest, taps.after, &mut numbers);
+    let fault = read.fault;
+    let Fault::None = fault else {
+        return no_taps(fault);
+    };
+    match window_of(bytes_of(rest, next_token(rest, read.after))) {
+        WindowName::Window(window) => FirParameters {
+            fault: Fault::None,
+            taps: taps.n,
+            cutoff: numbers[0],
+            window,
+        },
+        WindowName::Unknown => no_taps(Fault::UnknownWindow),
+    }
+}
+
+fn no_block(fault: Fault) -> Lengths
+    ensures { λ r. ⌜ (r .samples ≤ 256) × (r .places ≤ 256) ⌝ }
+{
+    Lengths {
+        fault,
+        samples: 0,
+        places: 0,
+    }
+}
+
+// With the length of the output, which follows the samples.
+fn with_places(rest: &[u8], from: usize, samples: usize) -> Lengths
+    requires { ⌜ samples ≤ 256 ⌝ }
+    ensures { λ r. ⌜ (r .samples ≤ 256) × (r .places ≤ 256) ⌝ }
+{
+    let l = next_count(rest, from);
+    let fault = l.fault;
+    let Fault::None = fault else {
+        return no_block(fault);
+    };
+    let places = l.n;
+    if places > MOST {
+        return no_block(Fault::TooManySamples);
+    }
+    Lengths {
+        fault: Fault::None,
+        samples,
+        places,
+    }
+}
+
+// The number of samples, the samples, which go into the first places of `input`, and the length of the output.
+pub(crate) fn block_lengths(rest: &[u8], input: &mut [f64]) -> Lengths
+    requires { ⌜ 256 ≤ length (now input) ⌝ }
+    ensures { λ r. ⌜ (r .samples ≤ 256) × (r .places ≤ 256) ⌝ }
+{
+    let tokens = token_count(rest);
+    if tokens < 1 {
+        return no_block(Fault::TokenCount);
+    }
+    let m = next_count(rest, 0);
+    let fault = m.fault;
+    let Fault::None = fault else {
+        return no_block(fault);
+    };
+    let samples = m.n;
+    if samples > MOST {
+        return no_block(Fault::TooManySamples);
+    }
+    if tokens != samples + 2 {
+        return no_block(Fault::TokenCount);
+    }
+    let read = read_floats(rest, m.after, &mut input[..samples]);
+    let fault = read.fault;
+    let Fault::None = fault else {
+        return no_block(fault);
+    };
+    with_places(rest, read.after, samples)
+}
