@@ -6,3 +6,4 @@ pub use first_order::FirstOrder;
 pub use first_order::FirstProcessed;
 pub use section::Processed;
 pub use section::Section;
+pub use section::process;

@@ -74,3 +74,14 @@ impl Section {
         section
     }
 }
+
+// The Rust's process: the same, changing a borrowed section.
+pub fn process(section: &mut Section, x: f64) -> f64
+    ensures { λ r. ⌜ (r ≡ sectionOut binary64 (sectionView (now (section .entry))) x)
+        × (sectionView (now (section .exit)) ≡ sectionNext binary64 (sectionView (now (section .entry))) x) ⌝ }
+{
+    let s = *section;
+    let p = s.process(x);
+    *section = p.section;
+    p.out
+}
