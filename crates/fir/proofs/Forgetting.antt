@@ -29,13 +29,13 @@ take-min (suc m) (suc n) [] = simp unary-clauses
 take-min (suc m) (suc n) (x ∷ l) = simp unary-clauses (ap (λ t. x ∷ t) (take-min m n l))
 
 -- the newest m of the places after a push
-take-pushed : (m n : ℕ) (x : Float) (xs : List Float) → m ≤ n → n ≤ length xs → take m (pushed n x xs) ≡ take m (x ∷ xs)
+pub take-pushed : (m n : ℕ) (x : Float) (xs : List Float) → m ≤ n → n ≤ length xs → take m (pushed n x xs) ≡ take m (x ∷ xs)
 unfolding pushed
 take-pushed m n x xs h k =
     let l : m ≤ length (take n (x ∷ xs)) = simp length-take (omega arith) in
     rw (take-append-le m (take n (x ∷ xs)) (drop n xs) l) (take-take m n (x ∷ xs) h)
 
-length-pushed : (n : ℕ) (x : Float) (xs : List Float) → n ≤ length xs → length (pushed n x xs) ≡ length xs
+pub length-pushed : (n : ℕ) (x : Float) (xs : List Float) → n ≤ length xs → length (pushed n x xs) ≡ length xs
 unfolding pushed
 length-pushed n x xs h = simp (length-append, length-take, length-drop) (omega arith)
 

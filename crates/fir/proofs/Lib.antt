@@ -3,3 +3,7 @@
 pub mod Laws
 pub mod Fresh
 pub mod Forgetting
+pub mod Full
+pub mod Copies
+pub mod Window
+pub mod Long

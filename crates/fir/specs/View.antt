@@ -27,6 +27,10 @@ resetView r = record { refusal = r .refusal; state = tapsView (r .filter) }
 abbrev pub madeView : Made → MadeRecord
 madeView m = record { refusal = m .refusal; filter = tapsView (m .filter) }
 
+-- an accepted block by its parts
+abbrev pub blockOf : ℕ → TapsRecord → List Float → Block TapsRecord
+blockOf clouded r output = record { refusal = 0; clouded = clouded; state = r; output = output }
+
 -- with the output after it
 abbrev pub blockView : Blocked → List Float → Block TapsRecord
 blockView r output = record { refusal = r .refusal; clouded = r .clouded; state = tapsView (r .filter); output = output }

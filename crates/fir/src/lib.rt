@@ -2,12 +2,15 @@
 // here they stand in an array, newest at place 0. `block` is added.
 ghost use mathlib.Core.Path.{_≡_};
 ghost use mathlib.Core.Bool.{true};
-ghost use Prim.Native.Nat.{_≤_};
-ghost use lib.ListN.{length, take};
+ghost use mathlib.Core.List.{_++_};
+ghost use Prim.Native.Nat.{_+_, _-_, _≤_, _<_, min};
+ghost use lib.ListN.{length, take, drop};
 ghost use lib.Ieee.{binary64};
-ghost use Rattle.runs.specs.Runs.{plusZero, notAllFinite, step, reset, block};
+ghost use Rattle.runs.specs.Runs.{plusZero, notAllFinite, cloudedIn, written, step, reset, answers, after, block};
 ghost use Rattle.fir.specs.Fir.{pushed, sum, clouding, checkTaps, zeros, blankTaps, next, value, mark, fir, fromCoeffs};
-ghost use Rattle.fir.specs.View.{capacity, tapsView, updatedView, resetView, blockView, madeView};
+ghost use Rattle.convolution.specs.Convolution.{placed};
+ghost use Rattle.fir.specs.Blocks.{backFrom, finiteRun, ageAfter, cloudsFrom, newestOf};
+ghost use Rattle.fir.specs.View.{capacity, tapsView, updatedView, resetView, blockOf, blockView, madeView};
 use runs::Answer;
 
 pub struct TapRecord {
@@ -49,6 +52,12 @@ pub struct Made {
 struct Passed {
     out: f64,
     clouded: bool,
+    filter: TapRecord,
+}
+
+// How many answers of a block were Clouded, and the record after it.
+struct Ran {
+    clouded: usize,
     filter: TapRecord,
 }
 
@@ -108,6 +117,103 @@ fn clouds(taps: &[f64], samples: &[f64], n: usize) -> bool
     ensures { λ r. ⌜ r ≡ clouding (now (taps .entry)) (take n (now (samples .entry))) ⌝ }
 {
     not_all_finite(samples, n)
+}
+
+// n samples of x from place `last` backward, into the first n places of `to`.
+fn copy_back(x: &[f64], last: usize, n: usize, to: &mut [f64])
+    requires { ⌜ (n ≤ last + 1) × (last < length (now x)) × (n ≤ length (now to)) ⌝ }
+    ensures { λ _. ⌜ now (to .exit) ≡ backFrom n (now (x .entry)) last ++ drop n (now (to .entry)) ⌝ }
+{
+    let mut i: usize = 0;
+    while i < n {
+        to[i] = x[last - i];
+        i += 1;
+    }
+}
+
+// m samples of x from place `from` on, into `to` from place n on.
+fn copy_on(x: &[f64], from: usize, m: usize, to: &mut [f64], n: usize)
+    requires { ⌜ (from + m ≤ length (now x)) × (n + m ≤ length (now to)) ⌝ }
+    ensures { λ _. ⌜ now (to .exit) ≡ placed (now (to .entry)) n (take m (drop from (now (x .entry)))) ⌝ }
+{
+    let mut j: usize = 0;
+    while j < m {
+        to[n + j] = x[from + j];
+        j += 1;
+    }
+}
+
+// How many of the first n samples are finite up to the first that is not.
+fn finite_run(samples: &[f64], n: usize) -> usize
+    requires { ⌜ n ≤ length (now samples) ⌝ }
+    ensures { λ r. ⌜ r ≡ min (finiteRun (now (samples .entry))) n ⌝ }
+{
+    let mut i: usize = 0;
+    while i < n {
+        if !scalar::is_finite(samples[i]) {
+            return i;
+        }
+        i += 1;
+    }
+    n
+}
+
+// How many finite samples, up to n, end with x, after so many before it.
+fn age_after(n: usize, age: usize, x: f64) -> usize
+    requires { ⌜ age ≤ n ⌝ }
+    ensures { λ r. ⌜ r ≡ ageAfter n age x ⌝ }
+{
+    if !scalar::is_finite(x) {
+        return 0;
+    }
+    if age < n { age + 1 } else { n }
+}
+
+// How many of the answers to the samples from place `from` on are Clouded.
+fn count_clouded(n: usize, age: usize, input: &[f64], from: usize) -> usize
+    requires { ⌜ (age ≤ n) × (from ≤ length (now input)) ⌝ }
+    ensures { λ r. ⌜ r ≡ cloudsFrom n age (drop from (now (input .entry))) ⌝ }
+{
+    let mut clouded: usize = 0;
+    let mut age = age;
+    let mut i = from;
+    while i < input.len() {
+        age = age_after(n, age, input[i]);
+        if age < n {
+            clouded += 1;
+        }
+        i += 1;
+    }
+    clouded
+}
+
+fn empty_window() -> [f64; 128]
+    ensures { λ r. ⌜ length r ≡ 128 ⌝ }
+{
+    [0.0; 128]
+}
+
+// The n held samples, oldest first, and behind them m samples of the input from place `from` on.
+fn window_of(samples: &[f64], n: usize, input: &[f64], from: usize, m: usize) -> [f64; 128]
+    requires { ⌜ (1 ≤ n) × (n ≤ 64) × (n ≤ length (now samples)) × (m ≤ n) × (from + m ≤ length (now input)) ⌝ }
+    ensures { λ r. ⌜ (length r ≡ 128) × (take (n + m) r ≡ backFrom n (now (samples .entry)) (n - 1) ++ take m (drop from (now (input .entry)))) ⌝ }
+{
+    let mut window = empty_window();
+    copy_back(samples, n - 1, n, &mut window);
+    copy_on(input, from, m, &mut window, n);
+    window
+}
+
+// The newest n samples after m of the input, the last of which ends it: from the window where they are fewer than n.
+fn keep_newest(samples: &mut [f64], n: usize, window: &[f64], input: &[f64], m: usize)
+    requires { ⌜ (1 ≤ n) × (n ≤ length (now samples)) × (n + n ≤ length (now window)) × (m ≤ length (now input)) ⌝ }
+    ensures { λ _. ⌜ now (samples .exit) ≡ newestOf n (now (window .entry)) (now (input .entry)) m ++ drop n (now (samples .entry)) ⌝ }
+{
+    if m < n {
+        copy_back(window, n + m - 1, n, samples);
+    } else {
+        copy_back(input, input.len() - 1, n, samples);
+    }
 }
 
 impl TapRecord {
@@ -262,6 +368,36 @@ impl TapRecord {
         }
     }
 
+    // Samples from place `from` on, through a record that holds as many samples as taps.
+    fn pass_all(self, input: &[f64], from: usize, output: &mut [f64]) -> Ran
+        requires { ⌜ (checkTaps capacity (tapsView self) ≡ true) × (self .held ≡ self .length) × (from ≤ length (now input)) × (length (now input) ≤ length (now output)) ⌝ }
+        ensures { λ r. ⌜ (r .clouded ≡ cloudedIn (answers (fir capacity binary64) (tapsView self) (drop from (now (input .entry)))))
+            × (tapsView (r .filter) ≡ after (fir capacity binary64) (tapsView self) (drop from (now (input .entry))))
+            × (now (output .exit) ≡ take from (now (output .entry)) ++ written (answers (fir capacity binary64) (tapsView self) (drop from (now (input .entry)))) (drop from (now (output .entry)))) ⌝ }
+    {
+        let n = self.length;
+        let taps = self.taps;
+        let mut samples = self.samples;
+        let m = input.len() - from;
+        let few = if m < n { m } else { n };
+        let window = window_of(&samples, n, input, from, few);
+        convolution::convolve(&taps, n, &window, n, output, from, few);
+        convolution::convolve(&taps, n, input, from + few, output, from + few, m - few);
+        let age = finite_run(&samples, n);
+        let clouded = count_clouded(n, age, input, from);
+        keep_newest(&mut samples, n, &window, input, m);
+        Ran {
+            clouded,
+            filter: TapRecord {
+                taps,
+                samples,
+                length: n,
+                held: self.held,
+                window: self.window,
+            },
+        }
+    }
+
     // What a refused block returns.
     fn refused_block(self, refusal: u8) -> Blocked
         ensures { λ r. ⌜ r ≡ record { refusal = refusal; clouded = 0; filter = self } ⌝ }
@@ -273,21 +409,16 @@ impl TapRecord {
         }
     }
 
-    // A block of samples, each as `update` has it: the answers in the first places of the output, later places left. An
-    // output shorter than the input is refused by 5.
-    pub fn block(self, input: &[f64], output: &mut [f64]) -> Blocked
-        ensures { λ r. ⌜ blockView r (now (output .exit)) ≡ block (fir capacity binary64) (tapsView self) (now (input .entry)) (now (output .entry)) ⌝ }
+    // The first k samples, one after the other.
+    fn pass_some(self, input: &[f64], k: usize, output: &mut [f64]) -> Ran
+        requires { ⌜ (checkTaps capacity (tapsView self) ≡ true) × (k ≤ length (now input)) × (length (now input) ≤ length (now output)) ⌝ }
+        ensures { λ r. ⌜ blockOf (r .clouded) (tapsView (r .filter)) (now (output .exit))
+            ≡ block (fir capacity binary64) (tapsView self) (take k (now (input .entry))) (now (output .entry)) ⌝ }
     {
-        if !self.check() {
-            return self.refused_block(runs::BAD_TAPS);
-        }
-        if output.len() < input.len() {
-            return self.refused_block(runs::SHORT_OUTPUT);
-        }
         let mut filter = self;
         let mut clouded: usize = 0;
         let mut i: usize = 0;
-        while i < input.len() {
+        while i < k {
             let p = filter.pass(input[i]);
             output[i] = p.out;
             let next = p.filter;
@@ -297,9 +428,37 @@ impl TapRecord {
             }
             i += 1;
         }
+        Ran { clouded, filter }
+    }
+
+    // A block of samples, each as `update` has it: the answers in the first places of the output, later places left. An
+    // output shorter than the input is refused by 5. Samples go one by one until the record is full; then all at once.
+    pub fn block(self, input: &[f64], output: &mut [f64]) -> Blocked
+        ensures { λ r. ⌜ blockView r (now (output .exit)) ≡ block (fir capacity binary64) (tapsView self) (now (input .entry)) (now (output .entry)) ⌝ }
+    {
+        if !self.check() {
+            return self.refused_block(runs::BAD_TAPS);
+        }
+        if output.len() < input.len() {
+            return self.refused_block(runs::SHORT_OUTPUT);
+        }
+        let missing = self.length - self.held;
+        let all = input.len();
+        let first = if all < missing { all } else { missing };
+        let front = self.pass_some(input, first, output);
+        let filter = front.filter;
+        if all <= first {
+            return Blocked {
+                refusal: 0,
+                clouded: front.clouded,
+                filter,
+            };
+        }
+        let rest = filter.pass_all(input, first, output);
+        let filter = rest.filter;
         Blocked {
             refusal: 0,
-            clouded,
+            clouded: front.clouded + rest.clouded,
             filter,
         }
     }

@@ -1,5 +1,5 @@
 -- Laws of a step, a reset and a block, for any filter: what a function shows where it returns, and the loop of a block; and of refusal 1. Assumes nothing.
-use mathlib.Core.Path.{_≡_, refl, sym, ap, _∙_}
+use mathlib.Core.Path.{_≡_, refl, sym, ap, ap₂, _∙_}
 use mathlib.Core.Bool.{Bool, true, false, _||_, cond, true≢false}
 use mathlib.Core.List.{List, [], _∷_, _++_, append-assoc}
 use Prim.Native.Nat.{ℕ, zero, suc, _+_, _<_, _≤_}
@@ -7,7 +7,7 @@ use native.Mathlib.Nat.{zero-lt-suc, zero-add, add-zero}
 use native.Mathlib.Numerals.{add-one}
 use native.Mathlib.Omega.{arith}
 use lib.Dec.{eqb, ltb}
-use lib.ListN.{length, getD, set, take, drop, length-set, take-append-drop, drop-of-length-le}
+use lib.ListN.{length, getD, set, take, drop, length-set, length-take, length-drop, take-append-drop, drop-of-length-le}
 use lib.Seq.{drop-cons, take-suc-set, drop-set-lt}
 use borrow.Author.Tests.{ltb-false, lt-ltb, le-ltb}
 use Rattle.runs.specs.Refusals.{orderRefused, ShortOutput}
@@ -147,3 +147,89 @@ good-order (suc n) most e = (zero-lt-suc n, ltb-false most (suc n) (either-no (e
     either-no : (a b : Bool) → (a || b) ≡ false → b ≡ false
     either-no true b e = absurd (true≢false e)
     either-no false b e = e
+
+-- ---- a block in two parts
+module _ (F : Filter) (keeps : (s : F .State) (x : Float) → F .check s ≡ true → F .check (F .next s x) ≡ true) where
+  pub check-after : (s : F .State) (xs : List Float) → F .check s ≡ true → F .check (after F s xs) ≡ true
+  unfolding after
+  check-after s [] h = h
+  check-after s (x ∷ xs) h = rw (step-is F s x h) (check-after (F .next s x) xs (keeps s x h))
+
+  answers-append : (s : F .State) (xs ys : List Float) → answers F s (xs ++ ys) ≡ answers F s xs ++ answers F (after F s xs) ys
+  unfolding answers after
+  answers-append s [] ys = refl
+  answers-append s (x ∷ xs) ys = ap (λ (l : List Answer). step F s x .answer ∷ l) (answers-append (step F s x .state) xs ys)
+
+  after-append : (s : F .State) (xs ys : List Float) → after F s (xs ++ ys) ≡ after F (after F s xs) ys
+  unfolding after
+  after-append s [] ys = refl
+  after-append s (x ∷ xs) ys = after-append (step F s x .state) xs ys
+
+  answers-length : (s : F .State) (xs : List Float) → length (answers F s xs) ≡ length xs
+  unfolding answers
+  answers-length s [] = refl
+  answers-length s (x ∷ xs) = ap suc (answers-length (step F s x .state) xs)
+
+clouded-append : (a b : List Answer) → cloudedIn (a ++ b) ≡ cloudedIn a + cloudedIn b
+unfolding cloudedIn
+clouded-append [] b = sym (zero-add (cloudedIn b))
+clouded-append (x ∷ a) b = omega (arith, clouded-append a b)
+
+pub written-length : (a : List Answer) (output : List Float) → length (written a output) ≡ length output
+unfolding written
+written-length [] output = refl
+written-length (x ∷ a) [] = refl
+written-length (x ∷ a) (y ∷ output) = ap suc (written-length a output)
+
+written-append : (a b : List Answer) (output : List Float) → length a ≤ length output
+    → written (a ++ b) output ≡ take (length a) (written a output) ++ written b (drop (length a) (written a output))
+unfolding written
+written-append [] b output h = refl
+written-append (x ∷ a) b [] h = absurd (omega arith)
+written-append (x ∷ a) b (y ∷ output) h = ap (λ (l : List Float). placed x y ∷ l) (written-append a b output (omega arith))
+
+module _ (F : Filter) (keeps : (s : F .State) (x : Float) → F .check s ≡ true → F .check (F .next s x) ≡ true) (s : F .State) (input output₀ : List Float) (k : ℕ)
+    (good : F .check s ≡ true) (within : k ≤ length input) (room : length input ≤ length output₀) where
+  -- what a block of the first k samples returns
+  pub front-is : block F s (take k input) output₀
+      ≡ record { refusal = 0; clouded = cloudedIn (answers F s (take k input)); state = after F s (take k input); output = written (answers F s (take k input)) output₀ }
+  unfolding block
+  front-is = rw (good, le-ltb (length output₀) (length (take k input)) (rw (length-take) (omega arith)))
+
+  -- and the rest behind it
+  pub block-parts : {s₁ s₂ : F .State} {output₁ output₂ : List Float} {c₁ c₂ : ℕ} → record { refusal = 0; clouded = c₁; state = s₁; output = output₁ } ≡ block F s (take k input) output₀
+      → c₂ ≡ cloudedIn (answers F s₁ (drop k input)) → s₂ ≡ after F s₁ (drop k input) → output₂ ≡ take k output₁ ++ written (answers F s₁ (drop k input)) (drop k output₁)
+      → _≡_ {A = Block (F .State)} (record { refusal = 0; clouded = c₁ + c₂; state = s₂; output = output₂ }) (block F s input output₀)
+  unfolding block
+  block-parts {s₁} {s₂} {output₁} {output₂} {c₁} {c₂} e ec es eo =
+      let q = e ∙ front-is in
+      let xs = take k input in
+      let ys = drop k input in
+      let a = answers F s xs in
+      let la : length a ≡ k = answers-length F keeps s xs ∙ rw (length-take) (omega arith) in
+      let c : c₁ ≡ cloudedIn a = ap (λ (b : Block (F .State)). b .clouded) q in
+      let t : s₁ ≡ after F s xs = ap (λ (b : Block (F .State)). b .state) q in
+      let o : output₁ ≡ written a output₀ = ap (λ (b : Block (F .State)). b .output) q in
+      let whole : answers F s input ≡ a ++ answers F s₁ ys = ap (answers F s) (sym (take-append-drop k input)) ∙ answers-append F keeps s xs ys ∙ ap (λ (r : F .State). a ++ answers F r ys) (sym t) in
+      let last : after F s input ≡ s₂ = ap (after F s) (sym (take-append-drop k input)) ∙ after-append F keeps s xs ys ∙ ap (λ (r : F .State). after F r ys) (sym t) ∙ sym es in
+      let count : cloudedIn (answers F s input) ≡ c₁ + c₂ = ap cloudedIn whole ∙ clouded-append a (answers F s₁ ys) ∙ ap₂ _+_ (sym c) (sym ec) in
+      let places : written (answers F s input) output₀ ≡ output₂ =
+      ap (λ (l : List Answer). written l output₀) whole ∙ written-append a (answers F s₁ ys) output₀ (omega (arith, la))
+      ∙ ap₂ (λ (z : ℕ) (l : List Float). take z l ++ written (answers F s₁ ys) (drop z l)) la (sym o) ∙ sym eo in
+      rw (good, le-ltb (length output₀) (length input) room, count, last, places)
+
+  few-clouded : (a : List Answer) → cloudedIn a ≤ length a
+  unfolding cloudedIn
+  few-clouded [] = omega arith
+  few-clouded (x ∷ a) = go (isClouded x) (few-clouded a)
+    where
+      go : (b : Bool) → cloudedIn a ≤ length a → cond b 1 0 + cloudedIn a ≤ suc (length a)
+      go true h = omega arith
+      go false h = omega arith
+
+  -- the counts of both parts are no more than the samples
+  pub parts-few : {s₁ : F .State} {output₁ : List Float} {c₁ c₂ : ℕ} → record { refusal = 0; clouded = c₁; state = s₁; output = output₁ } ≡ block F s (take k input) output₀
+      → c₂ ≡ cloudedIn (answers F s₁ (drop k input)) → c₁ + c₂ ≤ length input
+  parts-few {s₁} {output₁} {c₁} {c₂} e ec =
+      let a : c₁ ≡ cloudedIn (answers F s (take k input)) = ap (λ (b : Block (F .State)). b .clouded) (e ∙ front-is) in
+      omega (arith, a, ec, few-clouded (answers F s (take k input)), few-clouded (answers F s₁ (drop k input)), answers-length F keeps s (take k input), answers-length F keeps s₁ (drop k input), length-take k input, length-drop k input)

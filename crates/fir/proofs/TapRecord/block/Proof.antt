@@ -1,104 +1,101 @@
--- `fir::TapRecord::block` meets its contract: a turn of its loop is a turn of `Running`. Assumes nothing.
-use Prim.Native.Nat.{_-_}
+-- `fir::TapRecord::block` meets its contract: a block of the first samples, one by one, and the rest behind it. Assumes nothing.
+use Prim.Native.Nat.{_+_, _-_, _≤_, min}
+use mathlib.Core.Path.{_≡_, sym, ap, _∙_}
 use mathlib.Core.Logic.{⊎-elim}
-use mathlib.Core.Path.{sym, _∙_}
 use native.Mathlib.Omega.{arith}
 use borrow.Author.Tests.{not-true, not-false}
 use lib.ListN.{length}
-use lib.Ieee.{binary64}
-use Rattle.runs.proofs.Laws.{Running, run-start, run-turn, run-done, block-refused, block-short}
-use Rattle.fir.specs.Fir.{fir}
+use mathlib.Core.List.{List}
+use lib.Ieee.{Float, binary64}
+use Rattle.runs.proofs.Laws.{block-refused, block-short, block-parts, parts-few}
+use lib.Seq.{take-all}
+use Rattle.runs.specs.Runs.{block}
+use Rattle.fir.specs.Fir.{checkTaps, fir}
+use mathlib.Core.Bool.{true}
 use Rattle.fir.specs.View.{capacity, tapsView}
-use Rattle.fir.proofs.Laws.{check-next}
+use Rattle.fir.proofs.Laws.{Sizes, sizes, check-next}
+use Rattle.fir.proofs.Long.{front-full}
 use borrow.Author.Needs.{needs}
 use Rattle.fir.proofs.TapRecord.block.Statement.{statement}
 use Rattle.fir.proofs.TapRecord.block.Tie as tie
 
-abbrev Inv-loop : tie.InvT-loop
-Inv-loop input output₀ filter₀ clouded₀ i₀ output kept clouded i = Running (fir capacity binary64) (tapsView filter₀) input output₀ (tapsView kept) output clouded i
-
-abbrev μ-loop : tie.MeasureT-loop
-μ-loop input output₀ filter₀ clouded₀ i₀ output kept clouded i = length input - i
-
-check-requires : tie.Need-check-requires Inv-loop μ-loop
+check-requires : tie.Need-check-requires
 check-requires c κs = search needs
 
-refused-block-requires : tie.Need-refused-block-requires Inv-loop μ-loop
+refused-block-requires : tie.Need-refused-block-requires
 refused-block-requires c κs = search needs
 
-returns : tie.Need-returns Inv-loop μ-loop
+returns : tie.Need-returns
 returns c = rw (c .refused-block .ensures) (block-refused (fir capacity binary64) _ _ _ (sym (c .before .before .check .ensures) ∙ not-true _ (c .before .if1 .taken)))
 
-refused-block-requires-2 : tie.Need-refused-block-requires-2 Inv-loop μ-loop
+refused-block-requires-2 : tie.Need-refused-block-requires-2
 refused-block-requires-2 c κs = search needs
 
-returns-2 : tie.Need-returns-2 Inv-loop μ-loop
-returns-2 c =
-    let e = c .before .before in
+returns-2 : tie.Need-returns-2
+returns-2 c = let e = c .before .before in
     rw (c .refused-block2 .ensures) (block-short (fir capacity binary64) _ _ _ (sym (e .before .check .ensures) ∙ not-false _ (e .if1 .left)) (c .before .if2 .taken))
 
-loop-holds : tie.Need-loop-holds Inv-loop μ-loop
-loop-holds c = run-start (fir capacity binary64) (check-next capacity) _ _ _ (c .if2 .left) (sym (c .before .before .check .ensures) ∙ not-false _ (c .before .if1 .left))
+-- ---- where the arms meet
+abbrev start : tie.Joined3 → tie.Start
+start j = j .before .before .before .before .before .before .before
 
-mul-pass : tie.Need-mul-pass Inv-loop μ-loop
-mul-pass c = search needs
+good : (j : tie.Joined3) → checkTaps capacity (tapsView (start j .args .self)) ≡ true
+good j = sym (j .before .before .before .before .check .ensures) ∙ not-false _ (j .before .before .before .if1 .left)
 
-shared-slice-read-pass : tie.Need-shared-slice-read-pass Inv-loop μ-loop
-shared-slice-read-pass c = search needs
+room : (j : tie.Joined3) → length (start j .args .input .now) ≤ length (start j .args .output .now)
+room j = j .before .before .if2 .left
 
-pass-requires : tie.Need-pass-requires Inv-loop μ-loop
-pass-requires c κs = c .before .before .loop .inv .good
+first-is : (j : tie.Joined3) → j .if3 .first ≡ min (length (start j .args .input .now)) (start j .args .self .length - start j .args .self .held)
+first-is j = ⊎-elim (λ w. omega arith) (λ w. omega arith) (j .if3 .came)
 
-mul-output : tie.Need-mul-output Inv-loop μ-loop
-mul-output c = search needs
+sub-missing : tie.Need-sub-missing
+sub-missing c = sizes capacity (tapsView (c .before .before .before .before .before .before .args .self)) (sym (c .before .before .before .check .ensures) ∙ not-false _ (c .before .before .if1 .left)) .few
 
-slice-write-output : tie.Need-slice-write-output Inv-loop μ-loop
-slice-write-output c = omega arith
+pass-some-requires : tie.Need-pass-some-requires
+pass-some-requires c κs = let j = c .before in (good j, omega (arith, first-is j), room j)
 
-add-clouded : tie.Need-add-clouded Inv-loop μ-loop
-add-clouded c = omega arith
+same-length : tie.Need-same-length
+same-length c = search needs
 
-add-i : tie.Need-add-i Inv-loop μ-loop
-add-i c = search needs
+returns-3 : tie.Need-returns-3
+returns-3 c = let j = c .before .before .before .before .before .before in
+    let s = start j in
+    c .before .before .before .before .pass-some .ensures
+    ∙ ap (λ (l : List Float). block (fir capacity binary64) (tapsView (s .args .self)) l (s .args .output .now)) (take-all (j .if3 .first) (s .args .input .now) (c .if4 .taken))
 
-loop-less : tie.Need-loop-less Inv-loop μ-loop
-loop-less c = search needs
+pass-all-requires : tie.Need-pass-all-requires
+pass-all-requires c κs = let j = c .before .before .before .before .before .before .before in
+    let s = start j in
+    let f = front-full capacity binary64 (tapsView (s .args .self)) _ _ (j .if3 .first) (good j) (omega (arith, first-is j)) (room j) (omega (arith, first-is j, c .before .if4 .left)) (c .before .before .before .before .before .pass-some .ensures) in
+    (f .0, f .1, omega (arith, first-is j), omega (arith, f .2, room j))
 
-loop-again : tie.Need-loop-again Inv-loop μ-loop
-loop-again c =
-    let p = c .before .before .pass .ensures in
-    run-turn (fir capacity binary64) (check-next capacity) _ _ _ (omega arith) (p .0) (p .1) (p .2)
-    (⊎-elim (λ w. rw (w .0 .taken) (w .1)) (λ w. rw (w .0 .left) (w .1)) (c .if3 .came))
-    (c .before .before .before .before .before .loop .inv)
+add-t13 : tie.Need-add-t13
+add-t13 c = let j = c .before .before .before .before .before .before .before .before .before .before .before .before .before in
+    let s = start j in
+    omega (arith, parts-few (fir capacity binary64) (check-next capacity) (tapsView (s .args .self)) (s .args .input .now) (s .args .output .now) (j .if3 .first) (good j) (omega (arith, first-is j)) (room j) (c .before .before .before .before .before .before .before .before .before .before .before .pass-some .ensures) (c .before .before .before .before .before .pass-all .ensures .0))
 
-same-length : tie.Need-same-length Inv-loop μ-loop
-same-length c = omega arith
+same-length-2 : tie.Need-same-length-2
+same-length-2 c = search needs
 
-returns-3 : tie.Need-returns-3 Inv-loop μ-loop
-returns-3 c =
-    let e = c .before .before .before in
-    run-done (fir capacity binary64) (check-next capacity) _ _ _ (c .loop-test .left) (sym (e .before .check .ensures) ∙ not-false _ (e .if1 .left)) (c .before .before .if2 .left) (c .before .loop .inv)
+returns-4 : tie.Need-returns-4
+returns-4 c = let j = c .before .before .before .before .before .before .before .before .before .before .before .before .before in
+    let e = c .before .before .before .before .before .pass-all .ensures in
+    block-parts (fir capacity binary64) (check-next capacity) _ _ _ (j .if3 .first) (good j) (omega (arith, first-is j)) (room j) (c .before .before .before .before .before .before .before .before .before .before .before .pass-some .ensures) (e .0) (e .1) (e .2)
 
 pub block-spec : {M : Type 1} → statement M
 block-spec =
     tie.close
     (tie.spec
-    Inv-loop
-    μ-loop
     check-requires
     refused-block-requires
     returns
     refused-block-requires-2
     returns-2
-    loop-holds
-    mul-pass
-    shared-slice-read-pass
-    pass-requires
-    mul-output
-    slice-write-output
-    add-clouded
-    add-i
-    loop-less
-    loop-again
+    sub-missing
+    pass-some-requires
     same-length
-    returns-3)
+    returns-3
+    pass-all-requires
+    add-t13
+    same-length-2
+    returns-4)

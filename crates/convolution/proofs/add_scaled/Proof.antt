@@ -1,0 +1,74 @@
+-- `convolution::add_scaled` meets its contract. Assumes nothing.
+use Prim.Native.Nat.{_-_}
+use native.Mathlib.Omega.{arith}
+use lib.ListN.{length}
+use lib.Ieee.{binary64}
+use Rattle.convolution.proofs.Sums.{Scaling, scale-start, scale-turn, scale-done}
+use borrow.Author.Needs.{needs}
+use Rattle.convolution.proofs.add_scaled.Statement.{statement}
+use Rattle.convolution.proofs.add_scaled.Tie as tie
+
+abbrev Inv-loop : tie.InvT-loop
+Inv-loop sums₀ t x k j₀ sums j = Scaling binary64 sums₀ t x k sums j
+
+abbrev μ-loop : tie.MeasureT-loop
+μ-loop sums₀ t x k j₀ sums j = length sums₀ - j
+
+loop-holds : tie.Need-loop-holds Inv-loop μ-loop
+loop-holds c = scale-start binary64 _ _ _ _
+
+mul-sums : tie.Need-mul-sums Inv-loop μ-loop
+mul-sums c = search needs
+
+slice-read-sums : tie.Need-slice-read-sums Inv-loop μ-loop
+slice-read-sums c = search needs
+
+add-sums : tie.Need-add-sums Inv-loop μ-loop
+add-sums c = search needs
+
+mul-sums-2 : tie.Need-mul-sums-2 Inv-loop μ-loop
+mul-sums-2 c = search needs
+
+shared-slice-read-sums : tie.Need-shared-slice-read-sums Inv-loop μ-loop
+shared-slice-read-sums c = search needs
+
+mul-sums-3 : tie.Need-mul-sums-3 Inv-loop μ-loop
+mul-sums-3 c = search needs
+
+slice-write-sums : tie.Need-slice-write-sums Inv-loop μ-loop
+slice-write-sums c = search needs
+
+add-j : tie.Need-add-j Inv-loop μ-loop
+add-j c = search needs
+
+loop-less : tie.Need-loop-less Inv-loop μ-loop
+loop-less c = omega (arith, c .before .before .before .loop .inv .same, c .before .before .loop-test .taken)
+
+loop-again : tie.Need-loop-again Inv-loop μ-loop
+loop-again c = scale-turn binary64 _ _ _ _ (c .before .before .loop-test .taken) (c .before .before .before .loop .inv)
+
+same-length : tie.Need-same-length Inv-loop μ-loop
+same-length c = c .before .loop .inv .same
+
+returns : tie.Need-returns Inv-loop μ-loop
+returns c = scale-done binary64 _ _ _ _ (c .loop-test .left) (c .before .loop .inv)
+
+pub add-scaled-spec : {M : Type 1} → statement M
+add-scaled-spec =
+    tie.close
+    (tie.spec
+    Inv-loop
+    μ-loop
+    loop-holds
+    mul-sums
+    slice-read-sums
+    add-sums
+    mul-sums-2
+    shared-slice-read-sums
+    mul-sums-3
+    slice-write-sums
+    add-j
+    loop-less
+    loop-again
+    same-length
+    returns)

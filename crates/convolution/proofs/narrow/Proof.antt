@@ -1,0 +1,65 @@
+use borrow.Author.Needs.{needs}
+-- `convolution::narrow` meets its contract. Assumes nothing.
+use Prim.Native.Nat.{_-_}
+use native.Mathlib.Omega.{arith}
+use lib.Ieee.{binary64}
+use Rattle.convolution.proofs.Sums.{Outputting, out-start, out-one, out-done}
+use Rattle.convolution.proofs.narrow.Statement.{statement}
+use Rattle.convolution.proofs.narrow.Tie as tie
+
+abbrev Inv-loop : tie.InvT-loop
+Inv-loop taps n x at output₀ to m j₀ output j = Outputting binary64 taps n x at output₀ to m output j
+
+abbrev μ-loop : tie.MeasureT-loop
+μ-loop taps n x at output₀ to m j₀ output j = m - j
+
+loop-holds : tie.Need-loop-holds Inv-loop μ-loop
+loop-holds c = out-start binary64 _ _ _ _ _ _ _
+
+add-one : tie.Need-add-one Inv-loop μ-loop
+add-one c = search needs
+
+one-requires : tie.Need-one-requires Inv-loop μ-loop
+one-requires c κs = let p = c .before .before .before .before .before .pre in (omega (arith, p .0), p .1, omega (arith, p .2))
+
+add-output : tie.Need-add-output Inv-loop μ-loop
+add-output c = search needs
+
+mul-output : tie.Need-mul-output Inv-loop μ-loop
+mul-output c = search needs
+
+slice-write-output : tie.Need-slice-write-output Inv-loop μ-loop
+slice-write-output c = omega (arith, c .before .before .loop .inv .same, c .before .before .before .before .before .before .pre)
+
+add-j : tie.Need-add-j Inv-loop μ-loop
+add-j c = search needs
+
+loop-less : tie.Need-loop-less Inv-loop μ-loop
+loop-less c = search needs
+
+loop-again : tie.Need-loop-again Inv-loop μ-loop
+loop-again c = let a = c .before .before in out-one binary64 _ _ _ _ _ _ _ (c .before .loop-test .taken) (a .before .before .before .before .pre .3) (c .one .ensures) (a .loop .inv)
+
+same-length : tie.Need-same-length Inv-loop μ-loop
+same-length c = c .before .loop .inv .same
+
+returns : tie.Need-returns Inv-loop μ-loop
+returns c = out-done binary64 _ _ _ _ _ _ _ (c .loop-test .left) (c .before .loop .inv)
+
+pub narrow-spec : {M : Type 1} → statement M
+narrow-spec =
+    tie.close
+    (tie.spec
+    Inv-loop
+    μ-loop
+    loop-holds
+    add-one
+    one-requires
+    add-output
+    mul-output
+    slice-write-output
+    add-j
+    loop-less
+    loop-again
+    same-length
+    returns)

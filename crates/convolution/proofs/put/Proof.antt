@@ -1,0 +1,65 @@
+-- `convolution::put` meets its contract. Assumes nothing.
+use Prim.Native.Nat.{_-_}
+use native.Mathlib.Omega.{arith}
+use lib.ListN.{length}
+use Rattle.convolution.proofs.Sums.{Putting, put-start, put-turn, put-done}
+use borrow.Author.Needs.{needs}
+use Rattle.convolution.proofs.put.Statement.{statement}
+use Rattle.convolution.proofs.put.Tie as tie
+
+abbrev Inv-loop : tie.InvT-loop
+Inv-loop output₀ to ys j₀ output j = Putting output₀ to ys output j
+
+abbrev μ-loop : tie.MeasureT-loop
+μ-loop output₀ to ys j₀ output j = length ys - j
+
+loop-holds : tie.Need-loop-holds Inv-loop μ-loop
+loop-holds c = put-start _ _ _
+
+mul-output : tie.Need-mul-output Inv-loop μ-loop
+mul-output c = search needs
+
+shared-slice-read-output : tie.Need-shared-slice-read-output Inv-loop μ-loop
+shared-slice-read-output c = search needs
+
+add-output : tie.Need-add-output Inv-loop μ-loop
+add-output c = omega arith
+
+mul-output-2 : tie.Need-mul-output-2 Inv-loop μ-loop
+mul-output-2 c = search needs
+
+slice-write-output : tie.Need-slice-write-output Inv-loop μ-loop
+slice-write-output c = omega arith
+
+add-j : tie.Need-add-j Inv-loop μ-loop
+add-j c = search needs
+
+loop-less : tie.Need-loop-less Inv-loop μ-loop
+loop-less c = search needs
+
+loop-again : tie.Need-loop-again Inv-loop μ-loop
+loop-again c = put-turn _ _ (c .before .loop-test .taken) (c .before .before .before .pre) (c .before .before .loop .inv)
+
+same-length : tie.Need-same-length Inv-loop μ-loop
+same-length c = c .before .loop .inv .same
+
+returns : tie.Need-returns Inv-loop μ-loop
+returns c = put-done _ _ (c .loop-test .left) (c .before .loop .inv)
+
+pub put-spec : {M : Type 1} → statement M
+put-spec =
+    tie.close
+    (tie.spec
+    Inv-loop
+    μ-loop
+    loop-holds
+    mul-output
+    shared-slice-read-output
+    add-output
+    mul-output-2
+    slice-write-output
+    add-j
+    loop-less
+    loop-again
+    same-length
+    returns)

@@ -1,0 +1,69 @@
+use borrow.Author.Needs.{counted-is}
+use Rattle.convolution.proofs.Sums.{taps-turn, taps-done, sums-length}
+-- `convolution::sixteen` meets its contract. Assumes nothing.
+use Prim.Native.Nat.{_-_, _≤_}
+use mathlib.Core.Path.{_≡_, refl, sym, ap, _∙_}
+use native.Mathlib.Numerals.{add-one}
+use native.Mathlib.Omega.{arith}
+use lib.ListN.{length}
+use lib.Ieee.{binary64, ofBits}
+use Rattle.convolution.specs.Convolution.{sumAt, sumsFrom, scaled}
+use Rattle.convolution.proofs.Sums.{sums-more, length-sums}
+use borrow.Author.Needs.{needs}
+use Rattle.convolution.proofs.sixteen.Statement.{statement}
+use Rattle.convolution.proofs.sixteen.Tie as tie
+
+abbrev Inv-loop : tie.InvT-loop
+Inv-loop taps n x at sums₀ i₀ sums i = (i ≤ n) × (sums ≡ sumsFrom binary64 taps i x at 16)
+
+abbrev μ-loop : tie.MeasureT-loop
+μ-loop taps n x at sums₀ i₀ sums i = n - i
+
+loop-holds : tie.Need-loop-holds Inv-loop μ-loop
+unfolding sumsFrom sumAt ofBits
+loop-holds c = (omega arith, refl)
+
+sub-k : tie.Need-sub-k Inv-loop μ-loop
+sub-k c = search needs
+
+mul-t : tie.Need-mul-t Inv-loop μ-loop
+mul-t c = search needs
+
+shared-slice-read-t : tie.Need-shared-slice-read-t Inv-loop μ-loop
+shared-slice-read-t c = search needs
+
+slice-aggregate-add-scaled : tie.Need-slice-aggregate-add-scaled Inv-loop μ-loop
+slice-aggregate-add-scaled c = sym (sums-length binary64 _ _ _ _ 16 (c .before .before .before .loop .inv .1))
+
+add-scaled-requires : tie.Need-add-scaled-requires Inv-loop μ-loop
+add-scaled-requires c κs = let a = c .before .before .before in omega (arith, sums-length binary64 _ _ _ _ 16 (a .loop .inv .1), a .before .before .before .pre)
+
+add-i : tie.Need-add-i Inv-loop μ-loop
+add-i c = search needs
+
+loop-less : tie.Need-loop-less Inv-loop μ-loop
+loop-less c = search needs
+
+loop-again : tie.Need-loop-again Inv-loop μ-loop
+loop-again c = let a = c .before .before .before .before .before in
+    (omega arith, taps-turn binary64 _ _ (a .loop .i) _ 16 (omega (arith, a .before .before .before .pre)) (a .loop .inv .1) (c .before .add-scaled .ensures))
+
+returns : tie.Need-returns Inv-loop μ-loop
+returns c = taps-done binary64 _ _ _ _ _ 16 (c .before .loop .inv .0) (c .loop-test .left) (c .before .loop .inv .1)
+
+pub sixteen-spec : {M : Type 1} → statement M
+sixteen-spec =
+    tie.close
+    (tie.spec
+    Inv-loop
+    μ-loop
+    loop-holds
+    sub-k
+    mul-t
+    shared-slice-read-t
+    slice-aggregate-add-scaled
+    add-scaled-requires
+    add-i
+    loop-less
+    loop-again
+    returns)

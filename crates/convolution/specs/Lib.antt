@@ -1,0 +1,2 @@
+-- Sums of taps and samples.
+pub mod Convolution
