@@ -96,7 +96,7 @@ def main():
     with open("crates/replay/stdout", "w") as out:
         out.write(f"{len(rows)} requests, {len(rows)} agree with the Rust\n")
         for kind, n in count.items():
-            out.write(f"{kind} {n}, {n} agree\n")
+            out.write(f"{kind:<10} {n}, {n} agree\n")
 
 
 if __name__ == "__main__":

@@ -1,6 +1,6 @@
-// The requests of a cascade: its five designs, steps, blocks and resets.
+// The requests of a cascade: its five designs, steps, blocks and resets. Each answers the cascade after it, and tells
+// whether its answer agreed.
 use crate::compare::MOST;
-use crate::compare::Place;
 use crate::compare::float;
 use crate::compare::floats;
 use crate::compare::meet;
@@ -10,49 +10,43 @@ use crate::compare::meets_block;
 use crate::compare::meets_refusal;
 use crate::compare::places;
 use crate::compare::rest;
-use crate::compare::start;
 use crate::compare::whole;
 use crate::compare::word;
 use cascade::Cascade;
 use designs::Design;
 use requests::DesignRequest;
+use sections::FirstOrder;
+use sections::Section;
 
-// The cascade after a request, and whether its answer agreed.
-pub(crate) struct Turn {
-    pub cascade: Cascade,
-    pub agreed: bool,
+fn meet_section(place: usize, stored: &[u64], s: Section) -> usize {
+    let place = meet_float(place, stored, s.b0);
+    let place = meet_float(place, stored, s.b1);
+    let place = meet_float(place, stored, s.b2);
+    let place = meet_float(place, stored, s.a1);
+    meet_float(place, stored, s.a2)
 }
 
-fn meet_section(p: Place, stored: &[u64], s: sections::Section) -> Place {
-    let p = meet_float(p, stored, s.b0);
-    let p = meet_float(p, stored, s.b1);
-    let p = meet_float(p, stored, s.b2);
-    let p = meet_float(p, stored, s.a1);
-    meet_float(p, stored, s.a2)
-}
-
-fn meet_first(p: Place, stored: &[u64], c: Cascade) -> Place {
-    if c.has_first {
-        let f = c.first;
-        let p = meet(p, stored, 1);
-        let p = meet_float(p, stored, f.b0);
-        let p = meet_float(p, stored, f.b1);
-        meet_float(p, stored, f.a1)
-    } else {
-        meet(p, stored, 0)
+// The first `count` sections.
+fn meet_sections(place: usize, stored: &[u64], sections: [Section; 4], count: usize) -> usize {
+    let mut place = place;
+    let mut i: usize = 0;
+    while i < 4 && i < count {
+        let s = sections[i];
+        place = meet_section(place, stored, s);
+        i += 1;
     }
+    place
 }
 
-// Section i, where it is counted.
-fn meet_counted(p: Place, stored: &[u64], c: Cascade, i: usize) -> Place {
-    if i < c.count {
-        if i < 4 {
-            let sections = c.sections;
-            let s = sections[i];
-            return meet_section(p, stored, s);
-        }
+// The flag, and the first-order part where it is used.
+fn meet_first(place: usize, stored: &[u64], has_first: bool, f: FirstOrder) -> usize {
+    if !has_first {
+        return meet(place, stored, 0);
     }
-    p
+    let place = meet(place, stored, 1);
+    let place = meet_float(place, stored, f.b0);
+    let place = meet_float(place, stored, f.b1);
+    meet_float(place, stored, f.a1)
 }
 
 // Whether a design's answer is as stored: its refusal number, or 0, the count, the flag and the coefficients.
@@ -60,14 +54,12 @@ fn meets_design(stored: &[u64], refusal: u8, c: Cascade) -> bool {
     if refusal != 0 {
         return meets_refusal(stored, refusal);
     }
-    let p = meet(start(), stored, 0);
-    let p = meet(p, stored, c.count as u64);
-    let p = meet_first(p, stored, c);
-    let p = meet_counted(p, stored, c, 0);
-    let p = meet_counted(p, stored, c, 1);
-    let p = meet_counted(p, stored, c, 2);
-    let p = meet_counted(p, stored, c, 3);
-    whole(p, stored)
+    let place = meet(0, stored, 0);
+    let place = meet(place, stored, c.count as u64);
+    let first = c.first;
+    let place = meet_first(place, stored, c.has_first, first);
+    let sections = c.sections;
+    whole(meet_sections(place, stored, sections, c.count), stored)
 }
 
 // The design by its own function.
@@ -117,76 +109,80 @@ fn as_request(kind: usize, order: usize, a: f64, b: f64, c: f64) -> DesignReques
 
 // Whether the request is checked and designed as stored.
 fn meets_request(stored: &[u64], request: DesignRequest) -> bool {
-    let refusal = requests::check_request(request);
+    if (requests::check_request(request) as u64) != word(stored, 0) {
+        return false;
+    }
     let d = requests::design(request);
     let cascade = d.cascade;
-    word(stored, 0) == (refusal as u64) && meets_design(stored, d.refusal, cascade)
+    meets_design(stored, d.refusal, cascade)
 }
 
-// A design of an order and two or three numbers, in both forms.
-fn design(kind: usize, asked: &[u64], stored: &[u64]) -> Turn {
+// A design of an order and two or three numbers, by its own function and as a request.
+fn design(kind: usize, asked: &[u64], stored: &[u64], agreed: &mut bool) -> Cascade {
     let order = word(asked, 0) as usize;
     let a = float(asked, 1);
     let b = float(asked, 2);
     let c = float(asked, 3);
+    let alike = meets_request(stored, as_request(kind, order, a, b, c));
     let d = direct(kind, order, a, b, c);
     let cascade = d.cascade;
-    let agreed = meets_design(stored, d.refusal, cascade)
-        && meets_request(stored, as_request(kind, order, a, b, c));
-    Turn { cascade, agreed }
+    *agreed = alike && meets_design(stored, d.refusal, cascade);
+    cascade
 }
 
-fn step(cascade: Cascade, asked: &[u64], stored: &[u64]) -> Turn {
+fn step(cascade: Cascade, asked: &[u64], stored: &[u64], agreed: &mut bool) -> Cascade {
     let u = cascade.update(float(asked, 0));
     let answer = u.answer;
-    let after = u.cascade;
-    Turn {
-        cascade: after,
-        agreed: meets_answer(stored, answer),
-    }
+    *agreed = meets_answer(stored, answer);
+    u.cascade
 }
 
-// Whether the block's answer, with the places of its output, is as stored.
-fn run_block(cascade: Cascade, input: &[f64], output: &mut [f64], stored: &[u64]) -> Turn {
+// A block into an output that is compared with the stored places.
+fn run_block(
+    cascade: Cascade,
+    input: &[f64],
+    output: &mut [f64],
+    stored: &[u64],
+    agreed: &mut bool,
+) -> Cascade {
     let b = cascade.block(input, output);
-    let after = b.cascade;
-    Turn {
-        cascade: after,
-        agreed: meets_block(stored, b.refusal, b.clouded, output),
-    }
+    *agreed = meets_block(stored, b.refusal, b.clouded, output);
+    b.cascade
 }
 
-// A block of samples into an output of so many places.
-fn block(cascade: Cascade, long: usize, samples: &[u64], stored: &[u64]) -> Turn {
+// A block: how many places its output has, and the samples.
+fn block(cascade: Cascade, asked: &[u64], stored: &[u64], agreed: &mut bool) -> Cascade {
+    let long = word(asked, 0) as usize;
+    let samples = rest(asked);
     let n = samples.len();
     let input = floats(samples);
     let mut output = places();
     if n <= MOST {
         if long <= MOST {
-            return run_block(cascade, &input[0..n], &mut output[0..long], stored);
+            return run_block(cascade, &input[0..n], &mut output[0..long], stored, agreed);
         }
     }
-    Turn {
-        cascade,
-        agreed: false,
-    }
+    cascade
 }
 
-fn reset(cascade: Cascade, stored: &[u64]) -> Turn {
+fn reset(cascade: Cascade, stored: &[u64], agreed: &mut bool) -> Cascade {
     let r = cascade.reset();
-    let after = r.cascade;
-    Turn {
-        cascade: after,
-        agreed: meets_refusal(stored, r.refusal),
-    }
+    *agreed = meets_refusal(stored, r.refusal);
+    r.cascade
 }
 
 // A request of the cascade, by its kind.
-pub(crate) fn request(kind: usize, cascade: Cascade, asked: &[u64], stored: &[u64]) -> Turn {
+pub(crate) fn request(
+    kind: usize,
+    cascade: Cascade,
+    asked: &[u64],
+    stored: &[u64],
+    agreed: &mut bool,
+) -> Cascade {
     match kind {
-        5 => step(cascade, asked, stored),
-        6 => block(cascade, word(asked, 0) as usize, rest(asked), stored),
-        7 => reset(cascade, stored),
-        _ => design(kind, asked, stored),
+        5 => step(cascade, asked, stored, agreed),
+        6 => block(cascade, asked, stored, agreed),
+        7 => reset(cascade, stored, agreed),
+        _ => design(kind, asked, stored, agreed),
     }
 }

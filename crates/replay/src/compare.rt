@@ -1,71 +1,75 @@
 // Comparing an answer with the stored one, word by word, and reading what is asked.
+//
+// A place is how many stored words have agreed so far, or NONE where one has not.
 ghost use mathlib.Core.Path.{_≡_};
 ghost use lib.ListN.{length};
 use runs::Answer;
 
-// A place in the stored words, and whether all words so far were as stored.
-pub(crate) struct Place {
-    pub at: usize,
-    pub good: bool,
-}
+const NONE: usize = usize::MAX;
 
-pub(crate) fn start() -> Place {
-    Place { at: 0, good: true }
-}
-
-// Compares w with the next stored word.
-pub(crate) fn meet(p: Place, stored: &[u64], w: u64) -> Place {
-    let at = p.at;
-    if at < stored.len() {
-        return Place {
-            at: at + 1,
-            good: p.good && stored[at] == w,
-        };
+// Compares w with the stored word at the place.
+pub(crate) fn meet(place: usize, stored: &[u64], w: u64) -> usize {
+    if place < stored.len() {
+        if stored[place] == w {
+            return place + 1;
+        }
     }
-    Place { at, good: false }
+    NONE
 }
 
 // There is one NaN: `to_bits` gives it the pattern that the list has.
-pub(crate) fn meet_float(p: Place, stored: &[u64], x: f64) -> Place {
-    meet(p, stored, ieee::to_bits(x))
+pub(crate) fn meet_float(place: usize, stored: &[u64], x: f64) -> usize {
+    meet(place, stored, ieee::to_bits(x))
 }
 
-pub(crate) fn meet_floats(p: Place, stored: &[u64], xs: &[f64]) -> Place {
-    let mut p = p;
-    let mut i: usize = 0;
-    while i < xs.len() {
-        p = meet_float(p, stored, xs[i]);
-        i += 1;
-    }
-    p
-}
-
-// Whether all words agreed and no stored word is left.
-pub(crate) fn whole(p: Place, stored: &[u64]) -> bool {
-    p.good && p.at == stored.len()
-}
-
-// Whether a sample's answer is as stored: 0 for Clear, 1 for Clouded, each with the number, or 2 and the refusal number.
-pub(crate) fn meets_answer(stored: &[u64], a: Answer) -> bool {
-    let p = start();
-    let p = match a {
-        Answer::Clear(y) => meet_float(meet(p, stored, 0), stored, y),
-        Answer::Clouded(y) => meet_float(meet(p, stored, 1), stored, y),
-        Answer::Refused(n) => meet(meet(p, stored, 2), stored, n as u64),
-    };
-    whole(p, stored)
-}
-
-// Whether a block's answer is as stored: 0 or the refusal number, the count of Clouded, and the output's places.
-pub(crate) fn meets_block(stored: &[u64], refusal: u8, clouded: usize, output: &[f64]) -> bool {
-    let p = meet(start(), stored, refusal as u64);
-    let p = meet(p, stored, clouded as u64);
-    whole(meet_floats(p, stored, output), stored)
+// Whether all stored words have agreed.
+pub(crate) fn whole(place: usize, stored: &[u64]) -> bool {
+    place == stored.len()
 }
 
 // Whether the stored answer is this refusal number, or 0.
 pub(crate) fn meets_refusal(stored: &[u64], refusal: u8) -> bool {
-    whole(meet(start(), stored, refusal as u64), stored)
+    whole(meet(0, stored, refusal as u64), stored)
+}
+
+// A sample's answer in words: 0 for Clear, 1 for Clouded, 2 for Refused.
+fn code(a: Answer) -> u64 {
+    match a {
+        Answer::Clear(_) => 0,
+        Answer::Clouded(_) => 1,
+        Answer::Refused(_) => 2,
+    }
+}
+
+// Then the number, or the refusal number.
+fn value(a: Answer) -> u64 {
+    match a {
+        Answer::Clear(y) => ieee::to_bits(y),
+        Answer::Clouded(y) => ieee::to_bits(y),
+        Answer::Refused(n) => n as u64,
+    }
+}
+
+pub(crate) fn meets_answer(stored: &[u64], a: Answer) -> bool {
+    let place = meet(0, stored, code(a));
+    whole(meet(place, stored, value(a)), stored)
+}
+
+fn meet_floats(place: usize, stored: &[u64], xs: &[f64]) -> usize {
+    let mut place = place;
+    let mut i: usize = 0;
+    while i < xs.len() {
+        place = meet_float(place, stored, xs[i]);
+        i += 1;
+    }
+    place
+}
+
+// Whether a block's answer is as stored: 0 or the refusal number, the count of Clouded, and the output's places.
+pub(crate) fn meets_block(stored: &[u64], refusal: u8, clouded: usize, output: &[f64]) -> bool {
+    let place = meet(0, stored, refusal as u64);
+    let place = meet(place, stored, clouded as u64);
+    whole(meet_floats(place, stored, output), stored)
 }
 
 // The word at a place, or 0 past the end.

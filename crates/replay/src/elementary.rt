@@ -1,7 +1,6 @@
 // The requests of the elementary functions.
 use crate::compare::float;
 use crate::compare::meet_float;
-use crate::compare::start;
 use crate::compare::whole;
 
 fn answer(kind: usize, x: f64) -> f64 {
@@ -21,5 +20,5 @@ fn answer(kind: usize, x: f64) -> f64 {
 // Whether the answer to a number is as stored.
 pub(crate) fn request(kind: usize, asked: &[u64], stored: &[u64]) -> bool {
     let y = answer(kind, float(asked, 0));
-    whole(meet_float(start(), stored, y), stored)
+    whole(meet_float(0, stored, y), stored)
 }

@@ -9,9 +9,12 @@ pub(crate) const FIR: usize = 8;
 
 pub(crate) const SQRT: usize = 13;
 
-// One more of the kind. No list is so long that a count wraps.
-pub(crate) fn count(counts: &mut [u64; KINDS], kind: usize) {
-    if kind < KINDS {
+// The bytes of a kind's name, with a space behind it.
+const WIDTH: usize = 11;
+
+// One more of the kind, where it is to be counted. No list is so long that a count wraps.
+pub(crate) fn count(counts: &mut [u64; KINDS], kind: usize, counted: bool) {
+    if counted && kind < KINDS {
         counts[kind] = std::num::wrapping_add_u64(counts[kind], 1);
     }
 }
@@ -26,38 +29,39 @@ fn total(counts: &[u64; KINDS]) -> u64 {
     sum
 }
 
-fn print_name(kind: usize) {
-    match kind {
-        0 => io::write_all(STDOUT_FILENO, b"lowpass"),
-        1 => io::write_all(STDOUT_FILENO, b"highpass"),
-        2 => io::write_all(STDOUT_FILENO, b"bandpass"),
-        3 => io::write_all(STDOUT_FILENO, b"chebyshev1"),
-        4 => io::write_all(STDOUT_FILENO, b"chebyshev2"),
-        5 => io::write_all(STDOUT_FILENO, b"cstep"),
-        6 => io::write_all(STDOUT_FILENO, b"cblock"),
-        7 => io::write_all(STDOUT_FILENO, b"creset"),
-        8 => io::write_all(STDOUT_FILENO, b"fir"),
-        9 => io::write_all(STDOUT_FILENO, b"taps"),
-        10 => io::write_all(STDOUT_FILENO, b"fstep"),
-        11 => io::write_all(STDOUT_FILENO, b"fblock"),
-        12 => io::write_all(STDOUT_FILENO, b"freset"),
-        13 => io::write_all(STDOUT_FILENO, b"sqrt"),
-        14 => io::write_all(STDOUT_FILENO, b"sin"),
-        15 => io::write_all(STDOUT_FILENO, b"cos"),
-        16 => io::write_all(STDOUT_FILENO, b"tan"),
-        17 => io::write_all(STDOUT_FILENO, b"exp"),
-        18 => io::write_all(STDOUT_FILENO, b"ln"),
-        19 => io::write_all(STDOUT_FILENO, b"sinh"),
-        20 => io::write_all(STDOUT_FILENO, b"cosh"),
-        _ => io::write_all(STDOUT_FILENO, b"pow10"),
+// Name i of a row of names.
+fn print_nth(names: &[u8], i: usize) {
+    if i < KINDS {
+        let from = i * WIDTH;
+        let end = from + WIDTH;
+        if end <= names.len() {
+            io::write_all(STDOUT_FILENO, &names[from..end]);
+        }
     }
-    ;
+}
+
+fn print_name(kind: usize) {
+    if kind < FIR {
+        print_nth(
+            b"lowpass    highpass   bandpass   chebyshev1 chebyshev2 cstep      cblock     creset     ",
+            kind,
+        );
+    } else if kind < SQRT {
+        print_nth(
+            b"fir        taps       fstep      fblock     freset     ",
+            kind - FIR,
+        );
+    } else {
+        print_nth(
+            b"sqrt       sin        cos        tan        exp        ln         sinh       cosh       pow10      ",
+            kind - SQRT,
+        );
+    }
 }
 
 // Of one kind: how many requests, and how many agree.
 fn print_kind(kind: usize, asked: u64, agreed: u64) {
     print_name(kind);
-    io::write_all(STDOUT_FILENO, b" ");
     io::print_decimal(STDOUT_FILENO, asked);
     io::write_all(STDOUT_FILENO, b", ");
     io::print_decimal(STDOUT_FILENO, agreed);

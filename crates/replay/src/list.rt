@@ -1,4 +1,5 @@
 // Reading the list. A word is 16 hexadecimal digits in upper case, and a space or a line's end behind them.
+use crate::kinds::KINDS;
 
 // The most words that a request asks, and the most that an answer has.
 pub(crate) const MOST: usize = 512;
@@ -49,15 +50,57 @@ pub(crate) fn read_word(fd: i32) -> Word {
     decoded(&text)
 }
 
-// Reads as many words as there are places, and answers whether all were good.
-pub(crate) fn read_words(fd: i32, words: &mut [u64]) -> bool {
-    let mut good = true;
+// Reads n words into the first places. Answers whether there is room and all were good.
+fn read_words(fd: i32, n: usize, words: &mut [u64; MOST]) -> bool {
+    let mut good = n <= MOST;
     let mut i: usize = 0;
-    while i < words.len() {
+    while i < MOST && i < n {
         let w = read_word(fd);
         words[i] = w.value;
         good = good && w.good;
         i += 1;
     }
     good
+}
+
+// A request's kind, how many words it asks, how many the stored answer has, and whether it could be read.
+pub(crate) struct Head {
+    pub kind: usize,
+    pub asked: usize,
+    pub stored: usize,
+    pub good: bool,
+}
+
+fn read_head(fd: i32) -> Head {
+    let kind = read_word(fd);
+    let asked = read_word(fd);
+    let stored = read_word(fd);
+    Head {
+        kind: kind.value as usize,
+        asked: asked.value as usize,
+        stored: stored.value as usize,
+        good: kind.good && asked.good && stored.good,
+    }
+}
+
+// Reads the next request: its head, the words asked and the stored ones.
+pub(crate) fn read_request(fd: i32, asked: &mut [u64; MOST], stored: &mut [u64; MOST]) -> Head {
+    let mut h = read_head(fd);
+    h.good = h.good
+        && h.kind < KINDS
+        && read_words(fd, h.asked, asked)
+        && read_words(fd, h.stored, stored);
+    h
+}
+
+// The first n words.
+pub(crate) fn front(words: &[u64; MOST], n: usize) -> &[u64] {
+    let all = &words[..];
+    if n < all.len() { &all[0..n] } else { all }
+}
+
+// Whether nothing is left of the file.
+pub(crate) fn at_end(fd: i32) -> bool {
+    let mut more = [0u8; 1];
+    io::read_full(fd, &mut more) == 0
 }

@@ -6,10 +6,10 @@ use Rattle.replay.proofs.replay.Statement.{statement}
 use Rattle.replay.proofs.replay.Tie as tie
 
 abbrev Inv-loop : tie.InvT-loop
-Inv-loop fd requests asked₀ agreed₀ cascade₀ filter₀ i₀ asked agreed cascade filter i = i ≤ requests
+Inv-loop fd requests counts₀ agreed₀ s₀ i₀ counts agreed s i = i ≤ requests
 
 abbrev μ-loop : tie.MeasureT-loop
-μ-loop fd requests asked₀ agreed₀ cascade₀ filter₀ i₀ asked agreed cascade filter i = requests - i
+μ-loop fd requests counts₀ agreed₀ s₀ i₀ counts agreed s i = requests - i
 
 blank-requires : tie.Need-blank-requires Inv-loop μ-loop
 blank-requires c κs = search needs
@@ -25,12 +25,6 @@ next-requires c κs = search needs
 
 returns : tie.Need-returns Inv-loop μ-loop
 returns c = search needs
-
-count-requires : tie.Need-count-requires Inv-loop μ-loop
-count-requires c κs = search needs
-
-count-requires-2 : tie.Need-count-requires-2 Inv-loop μ-loop
-count-requires-2 c κs = search needs
 
 add-i : tie.Need-add-i Inv-loop μ-loop
 add-i c = omega arith
@@ -55,8 +49,6 @@ replay-spec =
     loop-holds
     next-requires
     returns
-    count-requires
-    count-requires-2
     add-i
     loop-less
     loop-again

@@ -7,10 +7,10 @@ use Rattle.replay.proofs.compare.meet_floats.Statement.{statement}
 use Rattle.replay.proofs.compare.meet_floats.Tie as tie
 
 abbrev Inv-loop : tie.InvT-loop
-Inv-loop stored xs p₀ i₀ p i = i ≤ length xs
+Inv-loop place stored xs place₀ i₀ place' i = i ≤ length xs
 
 abbrev μ-loop : tie.MeasureT-loop
-μ-loop stored xs p₀ i₀ p i = length xs - i
+μ-loop place stored xs place₀ i₀ place' i = length xs - i
 
 loop-holds : tie.Need-loop-holds Inv-loop μ-loop
 loop-holds c = omega arith

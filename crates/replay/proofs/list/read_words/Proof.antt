@@ -1,17 +1,15 @@
--- `replay::list::read_words` meets its contract. The counter is at most the number of places, which stays. Assumes nothing.
+-- `replay::list::read_words` meets its contract. The counter is at most the number of places. Assumes nothing.
 use Prim.Native.Nat.{_≤_, _-_}
 use native.Mathlib.Omega.{arith}
 use borrow.Author.Needs.{needs}
-use mathlib.Core.Path.{_≡_}
-use lib.ListN.{length, length-set}
 use Rattle.replay.proofs.list.read_words.Statement.{statement}
 use Rattle.replay.proofs.list.read_words.Tie as tie
 
 abbrev Inv-loop : tie.InvT-loop
-Inv-loop fd words₀ good₀ i₀ words good i = (i ≤ length words₀) × (length words ≡ length words₀)
+Inv-loop fd n words₀ good₀ i₀ words good i = i ≤ 512
 
 abbrev μ-loop : tie.MeasureT-loop
-μ-loop fd words₀ good₀ i₀ words good i = length words₀ - i
+μ-loop fd n words₀ good₀ i₀ words good i = 512 - i
 
 loop-holds : tie.Need-loop-holds Inv-loop μ-loop
 loop-holds c = omega arith
@@ -22,8 +20,8 @@ read-word-requires c κs = search needs
 mul-words : tie.Need-mul-words Inv-loop μ-loop
 mul-words c = omega arith
 
-slice-write-words : tie.Need-slice-write-words Inv-loop μ-loop
-slice-write-words c = omega arith
+element-write-words : tie.Need-element-write-words Inv-loop μ-loop
+element-write-words c = omega arith
 
 add-i : tie.Need-add-i Inv-loop μ-loop
 add-i c = omega arith
@@ -32,13 +30,13 @@ loop-less : tie.Need-loop-less Inv-loop μ-loop
 loop-less c = omega arith
 
 loop-again : tie.Need-loop-again Inv-loop μ-loop
-loop-again c = (search needs, rw length-set (search needs))
-
-same-length : tie.Need-same-length Inv-loop μ-loop
-same-length c = omega arith
+loop-again c = omega arith
 
 returns : tie.Need-returns Inv-loop μ-loop
 returns c = search needs
+
+returns-2 : tie.Need-returns-2 Inv-loop μ-loop
+returns-2 c = search needs
 
 pub read-words-spec : {M : Type 1} → statement M
 read-words-spec =
@@ -49,9 +47,9 @@ read-words-spec =
     loop-holds
     read-word-requires
     mul-words
-    slice-write-words
+    element-write-words
     add-i
     loop-less
     loop-again
-    same-length
-    returns)
+    returns
+    returns-2)

@@ -6,10 +6,10 @@ use Rattle.replay.proofs.taps.meet_taps.Statement.{statement}
 use Rattle.replay.proofs.taps.meet_taps.Tie as tie
 
 abbrev Inv-loop : tie.InvT-loop
-Inv-loop stored length taps p₀ i₀ p i = i ≤ 64
+Inv-loop place stored length taps place₀ i₀ place' i = i ≤ 64
 
 abbrev μ-loop : tie.MeasureT-loop
-μ-loop stored length taps p₀ i₀ p i = 64 - i
+μ-loop place stored length taps place₀ i₀ place' i = 64 - i
 
 loop-holds : tie.Need-loop-holds Inv-loop μ-loop
 loop-holds c = omega arith
