@@ -13,7 +13,8 @@ requests. Each other line is a request: its kind's number, how many words it ask
 asked and the answer's words. A float's word is its bits, and any NaN's is 7FF8000000000000. An answer's words:
 
 - an elementary function: the number
-- a design or ready-made taps: the refusal number; or 0, the answer's two counts and its numbers
+- a design or ready-made taps: the refusal number or 0, the answer's two counts, which are 0 of a refused one's blank record,
+  and its numbers
 - a step: 0 (clear) or 1 (clouded) and the number; or 2 and the refusal number
 - a block, whose output's length stands before its samples: the refusal number or 0, the count of Clouded, the places
 - a reset: the refusal number or 0
@@ -57,7 +58,9 @@ def answered(kind, word, rest):
         refusal = int(rest[0])
         if kind in ("cstep", "fstep"):
             return [2, refusal]
-        return [refusal, 0] + numbers(rest[1:]) if kind in ("cblock", "fblock") else [refusal]
+        if kind in ("cblock", "fblock"):
+            return [refusal, 0] + numbers(rest[1:])
+        return [refusal] if kind in ("creset", "freset") else [refusal, 0, 0]
     if word == "done":
         return [0] + [int(t) for t in rest[:1]] + numbers(rest[1:])
     if word in ("clear", "clouded"):

@@ -1,6 +1,6 @@
 // The requests of a cascade: its five designs, steps, blocks and resets. Each answers the cascade after it, and tells
 // whether its answer agreed.
-use crate::compare::MOST;
+use crate::compare::capped;
 use crate::compare::float;
 use crate::compare::floats;
 use crate::compare::meet;
@@ -49,12 +49,9 @@ fn meet_first(place: usize, stored: &[u64], has_first: bool, f: FirstOrder) -> u
     meet_float(place, stored, f.a1)
 }
 
-// Whether a design's answer is as stored: its refusal number, or 0, the count, the flag and the coefficients.
+// Whether a design's answer is as stored: 0 or its refusal number, the count, the flag and the coefficients.
 fn meets_design(stored: &[u64], refusal: u8, c: Cascade) -> bool {
-    if refusal != 0 {
-        return meets_refusal(stored, refusal);
-    }
-    let place = meet(0, stored, 0);
+    let place = meet(0, stored, refusal as u64);
     let place = meet(place, stored, c.count as u64);
     let first = c.first;
     let place = meet_first(place, stored, c.has_first, first);
@@ -62,72 +59,86 @@ fn meets_design(stored: &[u64], refusal: u8, c: Cascade) -> bool {
     whole(meet_sections(place, stored, sections, c.count), stored)
 }
 
+// What a design asks: an order, and two or three numbers.
+struct Wanted {
+    order: usize,
+    a: f64,
+    b: f64,
+    c: f64,
+}
+
+fn what(asked: &[u64]) -> Wanted {
+    Wanted {
+        order: word(asked, 0) as usize,
+        a: float(asked, 1),
+        b: float(asked, 2),
+        c: float(asked, 3),
+    }
+}
+
 // The design by its own function.
-fn direct(kind: usize, order: usize, a: f64, b: f64, c: f64) -> Design {
+fn direct(kind: usize, w: Wanted) -> Design {
     match kind {
-        0 => designs::design_butterworth_lp(order, a, b),
-        1 => designs::design_butterworth_hp(order, a, b),
-        2 => designs::design_butterworth_bp(order, a, b, c),
-        3 => designs::design_chebyshev1_lp(order, a, b, c),
-        _ => designs::design_chebyshev2_lp(order, a, b, c),
+        0 => designs::design_butterworth_lp(w.order, w.a, w.b),
+        1 => designs::design_butterworth_hp(w.order, w.a, w.b),
+        2 => designs::design_butterworth_bp(w.order, w.a, w.b, w.c),
+        3 => designs::design_chebyshev1_lp(w.order, w.a, w.b, w.c),
+        _ => designs::design_chebyshev2_lp(w.order, w.a, w.b, w.c),
     }
 }
 
 // The same design as a request.
-fn as_request(kind: usize, order: usize, a: f64, b: f64, c: f64) -> DesignRequest {
+fn as_request(kind: usize, w: Wanted) -> DesignRequest {
     match kind {
         0 => DesignRequest::LowPass {
-            order,
-            cutoff: a,
-            sample_rate: b,
+            order: w.order,
+            cutoff: w.a,
+            sample_rate: w.b,
         },
         1 => DesignRequest::HighPass {
-            order,
-            cutoff: a,
-            sample_rate: b,
+            order: w.order,
+            cutoff: w.a,
+            sample_rate: w.b,
         },
         2 => DesignRequest::BandPass {
-            order,
-            low: a,
-            high: b,
-            sample_rate: c,
+            order: w.order,
+            low: w.a,
+            high: w.b,
+            sample_rate: w.c,
         },
         3 => DesignRequest::Chebyshev1 {
-            order,
-            cutoff: a,
-            ripple_db: b,
-            sample_rate: c,
+            order: w.order,
+            cutoff: w.a,
+            ripple_db: w.b,
+            sample_rate: w.c,
         },
         _ => DesignRequest::Chebyshev2 {
-            order,
-            cutoff: a,
-            stopband_db: b,
-            sample_rate: c,
+            order: w.order,
+            cutoff: w.a,
+            stopband_db: w.b,
+            sample_rate: w.c,
         },
     }
 }
 
 // Whether the request is checked and designed as stored.
 fn meets_request(stored: &[u64], request: DesignRequest) -> bool {
-    if (requests::check_request(request) as u64) != word(stored, 0) {
-        return false;
-    }
+    let refusal = requests::check_request(request) as u64;
     let d = requests::design(request);
-    let cascade = d.cascade;
-    meets_design(stored, d.refusal, cascade)
+    (word(stored, 0) == refusal) & meets_design(stored, d.refusal, d.cascade)
 }
 
-// A design of an order and two or three numbers, by its own function and as a request.
+// The design's cascade, and whether it is as stored too.
+fn taken(d: Design, stored: &[u64], agreed: &mut bool) -> Cascade {
+    *agreed = *agreed & meets_design(stored, d.refusal, d.cascade);
+    d.cascade
+}
+
+// A design by its own function and as a request.
 fn design(kind: usize, asked: &[u64], stored: &[u64], agreed: &mut bool) -> Cascade {
-    let order = word(asked, 0) as usize;
-    let a = float(asked, 1);
-    let b = float(asked, 2);
-    let c = float(asked, 3);
-    let alike = meets_request(stored, as_request(kind, order, a, b, c));
-    let d = direct(kind, order, a, b, c);
-    let cascade = d.cascade;
-    *agreed = alike && meets_design(stored, d.refusal, cascade);
-    cascade
+    let w = what(asked);
+    *agreed = meets_request(stored, as_request(kind, w));
+    taken(direct(kind, w), stored, agreed)
 }
 
 fn step(cascade: Cascade, asked: &[u64], stored: &[u64], agreed: &mut bool) -> Cascade {
@@ -150,19 +161,15 @@ fn run_block(
     b.cascade
 }
 
-// A block: how many places its output has, and the samples.
+// A block: how many places its output has, and the samples. One that is too long for the list is cut, so its answer
+// differs.
 fn block(cascade: Cascade, asked: &[u64], stored: &[u64], agreed: &mut bool) -> Cascade {
-    let long = word(asked, 0) as usize;
     let samples = rest(asked);
-    let n = samples.len();
+    let n = capped(samples.len());
+    let long = capped(word(asked, 0) as usize);
     let input = floats(samples);
     let mut output = places();
-    if n <= MOST {
-        if long <= MOST {
-            return run_block(cascade, &input[0..n], &mut output[0..long], stored, agreed);
-        }
-    }
-    cascade
+    run_block(cascade, &input[0..n], &mut output[0..long], stored, agreed)
 }
 
 fn reset(cascade: Cascade, stored: &[u64], agreed: &mut bool) -> Cascade {
@@ -171,7 +178,7 @@ fn reset(cascade: Cascade, stored: &[u64], agreed: &mut bool) -> Cascade {
     r.cascade
 }
 
-// A request of the cascade, by its kind.
+// A request of the cascade, by its kind; nothing at another.
 pub(crate) fn request(
     kind: usize,
     cascade: Cascade,
@@ -180,9 +187,10 @@ pub(crate) fn request(
     agreed: &mut bool,
 ) -> Cascade {
     match kind {
+        0..=4 => design(kind, asked, stored, agreed),
         5 => step(cascade, asked, stored, agreed),
         6 => block(cascade, asked, stored, agreed),
         7 => reset(cascade, stored, agreed),
-        _ => design(kind, asked, stored, agreed),
+        _ => cascade,
     }
 }

@@ -2,6 +2,7 @@
 //
 // A place is how many stored words have agreed so far, or NONE where one has not.
 ghost use mathlib.Core.Path.{_≡_};
+ghost use Prim.Native.Nat.{_≤_};
 ghost use lib.ListN.{length};
 use runs::Answer;
 
@@ -88,6 +89,13 @@ pub(crate) fn rest(words: &[u64]) -> &[u64] {
 
 // The most numbers that a request has: a block's samples or places, or ready-made taps.
 pub(crate) const MOST: usize = 256;
+
+// At most MOST.
+pub(crate) fn capped(n: usize) -> usize
+    ensures { λ r. ⌜ r ≤ 256 ⌝ }
+{
+    if n < MOST { n } else { MOST }
+}
 
 // The words as numbers, from the front.
 pub(crate) fn floats(words: &[u64]) -> [f64; MOST]

@@ -2,6 +2,7 @@
 use crate::compare::float;
 use crate::compare::meet_float;
 use crate::compare::whole;
+use crate::kinds::SQRT;
 
 fn answer(kind: usize, x: f64) -> f64 {
     match kind {
@@ -17,8 +18,8 @@ fn answer(kind: usize, x: f64) -> f64 {
     }
 }
 
-// Whether the answer to a number is as stored.
+// Whether it is such a request, and the answer as stored.
 pub(crate) fn request(kind: usize, asked: &[u64], stored: &[u64]) -> bool {
     let y = answer(kind, float(asked, 0));
-    whole(meet_float(0, stored, y), stored)
+    (kind >= SQRT) & whole(meet_float(0, stored, y), stored)
 }

@@ -12,10 +12,16 @@ pub(crate) const SQRT: usize = 13;
 // The bytes of a kind's name, with a space behind it.
 const WIDTH: usize = 11;
 
-// One more of the kind, where it is to be counted. No list is so long that a count wraps.
-pub(crate) fn count(counts: &mut [u64; KINDS], kind: usize, counted: bool) {
-    if counted && kind < KINDS {
+// One more request of the kind, and one more that agreed where it is alike. No list is so long that a count wraps.
+pub(crate) fn count(
+    counts: &mut [u64; KINDS],
+    agreed: &mut [u64; KINDS],
+    kind: usize,
+    alike: bool,
+) {
+    if kind < KINDS {
         counts[kind] = std::num::wrapping_add_u64(counts[kind], 1);
+        agreed[kind] = std::num::wrapping_add_u64(agreed[kind], alike as u64);
     }
 }
 

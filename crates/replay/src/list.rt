@@ -27,11 +27,11 @@ fn digit(b: u8) -> u64 {
 // The word at the front of the text.
 fn decoded(text: &[u8; WIDTH]) -> Word {
     let mut value: u64 = 0;
-    let mut good = text[16] == b' ' || text[16] == b'\n';
+    let mut good = (text[16] == b' ') | (text[16] == b'\n');
     let mut i: usize = 0;
     while i < 16 {
         let d = digit(text[i]);
-        good = good && d < 16;
+        good = good & (d < 16);
         value = (value << 4) | d;
         i += 1;
     }
@@ -57,7 +57,7 @@ fn read_words(fd: i32, n: usize, words: &mut [u64; MOST]) -> bool {
     while i < MOST && i < n {
         let w = read_word(fd);
         words[i] = w.value;
-        good = good && w.good;
+        good = good & w.good;
         i += 1;
     }
     good
@@ -79,18 +79,21 @@ fn read_head(fd: i32) -> Head {
         kind: kind.value as usize,
         asked: asked.value as usize,
         stored: stored.value as usize,
-        good: kind.good && asked.good && stored.good,
+        good: kind.good & asked.good & stored.good & (kind.value < (KINDS as u64)),
     }
 }
 
 // Reads the next request: its head, the words asked and the stored ones.
 pub(crate) fn read_request(fd: i32, asked: &mut [u64; MOST], stored: &mut [u64; MOST]) -> Head {
-    let mut h = read_head(fd);
-    h.good = h.good
-        && h.kind < KINDS
-        && read_words(fd, h.asked, asked)
-        && read_words(fd, h.stored, stored);
-    h
+    let h = read_head(fd);
+    let one = read_words(fd, h.asked, asked);
+    let two = read_words(fd, h.stored, stored);
+    Head {
+        kind: h.kind,
+        asked: h.asked,
+        stored: h.stored,
+        good: h.good & one & two,
+    }
 }
 
 // The first n words.

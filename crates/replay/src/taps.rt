@@ -1,6 +1,6 @@
 // The requests of a tap record: its design, ready-made taps, steps, blocks and resets. Each answers the record after it,
 // and tells whether its answer agreed.
-use crate::compare::MOST;
+use crate::compare::capped;
 use crate::compare::float;
 use crate::compare::floats;
 use crate::compare::meet;
@@ -12,6 +12,7 @@ use crate::compare::places;
 use crate::compare::rest;
 use crate::compare::whole;
 use crate::compare::word;
+use fir::Made;
 use fir::TapRecord;
 use requests::DesignRequest;
 use windows::WindowType;
@@ -32,13 +33,10 @@ fn meet_taps(
     place
 }
 
-// Whether the making of a record is as stored: its refusal number, or 0, the number of taps, the window's code and the
+// Whether the making of a record is as stored: 0 or its refusal number, the number of taps, the window's code and the
 // taps.
 fn meets_made(stored: &[u64], refusal: u8, filter: TapRecord) -> bool {
-    if refusal != 0 {
-        return meets_refusal(stored, refusal);
-    }
-    let place = meet(0, stored, 0);
+    let place = meet(0, stored, refusal as u64);
     let place = meet(place, stored, filter.length as u64);
     let place = meet(place, stored, filter.window as u64);
     let taps = filter.taps;
@@ -55,43 +53,57 @@ fn window(code: u64) -> WindowType {
     }
 }
 
-// Whether the request is checked and designed as stored.
-fn meets_request(stored: &[u64], request: DesignRequest) -> bool {
-    if (requests::check_request(request) as u64) != word(stored, 0) {
-        return false;
-    }
-    let d = requests::design(request);
-    let filter = d.filter;
-    meets_made(stored, d.refusal, filter)
+// What a design asks: a number of taps, a cutoff and a window.
+struct Wanted {
+    taps: usize,
+    cutoff: f64,
+    window: WindowType,
 }
 
-// A design of a number of taps, a cutoff and a window, by its own function and as a request.
-fn design(asked: &[u64], stored: &[u64], agreed: &mut bool) -> TapRecord {
-    let taps = word(asked, 0) as usize;
-    let cutoff = float(asked, 1);
-    let window = window(word(asked, 2));
+fn what(asked: &[u64]) -> Wanted {
+    Wanted {
+        taps: word(asked, 0) as usize,
+        cutoff: float(asked, 1),
+        window: window(word(asked, 2)),
+    }
+}
+
+// Whether the design as a request is checked and designed as stored.
+fn meets_request(stored: &[u64], w: Wanted) -> bool {
+    let window = w.window;
     let request = DesignRequest::Fir {
-        taps,
-        cutoff,
+        taps: w.taps,
+        cutoff: w.cutoff,
         window,
     };
-    let alike = meets_request(stored, request);
-    let m = windows::design_fir_lp(taps, cutoff, window);
-    let filter = m.filter;
-    *agreed = alike && meets_made(stored, m.refusal, filter);
-    filter
+    let refusal = requests::check_request(request) as u64;
+    let d = requests::design(request);
+    (word(stored, 0) == refusal) & meets_made(stored, d.refusal, d.filter)
 }
 
-fn ready_made(filter: TapRecord, asked: &[u64], stored: &[u64], agreed: &mut bool) -> TapRecord {
-    let n = asked.len();
+// The record that was made, and whether it is as stored too.
+fn taken(m: Made, stored: &[u64], agreed: &mut bool) -> TapRecord {
+    *agreed = *agreed & meets_made(stored, m.refusal, m.filter);
+    m.filter
+}
+
+// A design by its own function and as a request.
+fn design(asked: &[u64], stored: &[u64], agreed: &mut bool) -> TapRecord {
+    let w = what(asked);
+    let window = w.window;
+    *agreed = meets_request(stored, w);
+    taken(
+        windows::design_fir_lp(w.taps, w.cutoff, window),
+        stored,
+        agreed,
+    )
+}
+
+fn ready_made(asked: &[u64], stored: &[u64], agreed: &mut bool) -> TapRecord {
+    let n = capped(asked.len());
     let coeffs = floats(asked);
-    if n > MOST {
-        return filter;
-    }
-    let m = TapRecord::from_coeffs(&coeffs[0..n]);
-    let made = m.filter;
-    *agreed = meets_made(stored, m.refusal, made);
-    made
+    *agreed = true;
+    taken(TapRecord::from_coeffs(&coeffs[0..n]), stored, agreed)
 }
 
 fn step(filter: TapRecord, asked: &[u64], stored: &[u64], agreed: &mut bool) -> TapRecord {
@@ -114,19 +126,15 @@ fn run_block(
     b.filter
 }
 
-// A block: how many places its output has, and the samples.
+// A block: how many places its output has, and the samples. One that is too long for the list is cut, so its answer
+// differs.
 fn block(filter: TapRecord, asked: &[u64], stored: &[u64], agreed: &mut bool) -> TapRecord {
-    let long = word(asked, 0) as usize;
     let samples = rest(asked);
-    let n = samples.len();
+    let n = capped(samples.len());
+    let long = capped(word(asked, 0) as usize);
     let input = floats(samples);
     let mut output = places();
-    if n <= MOST {
-        if long <= MOST {
-            return run_block(filter, &input[0..n], &mut output[0..long], stored, agreed);
-        }
-    }
-    filter
+    run_block(filter, &input[0..n], &mut output[0..long], stored, agreed)
 }
 
 fn reset(filter: TapRecord, stored: &[u64], agreed: &mut bool) -> TapRecord {
@@ -135,7 +143,7 @@ fn reset(filter: TapRecord, stored: &[u64], agreed: &mut bool) -> TapRecord {
     r.filter
 }
 
-// A request of the tap record, by its kind.
+// A request of the tap record, by its kind; nothing at another.
 pub(crate) fn request(
     kind: usize,
     filter: TapRecord,
@@ -145,9 +153,10 @@ pub(crate) fn request(
 ) -> TapRecord {
     match kind {
         8 => design(asked, stored, agreed),
-        9 => ready_made(filter, asked, stored, agreed),
+        9 => ready_made(asked, stored, agreed),
         10 => step(filter, asked, stored, agreed),
         11 => block(filter, asked, stored, agreed),
-        _ => reset(filter, stored, agreed),
+        12 => reset(filter, stored, agreed),
+        _ => filter,
     }
 }

@@ -1,15 +1,17 @@
--- `replay::replay` meets its contract. The counter is at most the number of requests. Assumes nothing.
-use Prim.Native.Nat.{_≤_, _-_}
+-- `replay::replay` meets its contract. The measure is how many requests are left. Assumes nothing.
 use native.Mathlib.Omega.{arith}
 use borrow.Author.Needs.{needs}
 use Rattle.replay.proofs.replay.Statement.{statement}
 use Rattle.replay.proofs.replay.Tie as tie
 
 abbrev Inv-loop : tie.InvT-loop
-Inv-loop fd requests counts₀ agreed₀ s₀ i₀ counts agreed s i = i ≤ requests
+Inv-loop fd counts₀ agreed₀ cascade₀ filter₀ good₀ left₀ counts agreed cascade filter good left = Unit {0}
 
 abbrev μ-loop : tie.MeasureT-loop
-μ-loop fd requests counts₀ agreed₀ s₀ i₀ counts agreed s i = requests - i
+μ-loop fd counts₀ agreed₀ cascade₀ filter₀ good₀ left₀ counts agreed cascade filter good left = left
+
+read-word-requires : tie.Need-read-word-requires Inv-loop μ-loop
+read-word-requires c κs = search needs
 
 blank-requires : tie.Need-blank-requires Inv-loop μ-loop
 blank-requires c κs = search needs
@@ -18,25 +20,43 @@ blank-requires-2 : tie.Need-blank-requires-2 Inv-loop μ-loop
 blank-requires-2 c κs = search needs
 
 loop-holds : tie.Need-loop-holds Inv-loop μ-loop
-loop-holds c = omega arith
+loop-holds c = tt
 
-next-requires : tie.Need-next-requires Inv-loop μ-loop
-next-requires c κs = search needs
+sub-left : tie.Need-sub-left Inv-loop μ-loop
+sub-left c = omega arith
+
+read-request-requires : tie.Need-read-request-requires Inv-loop μ-loop
+read-request-requires c κs = search needs
+
+front-requires : tie.Need-front-requires Inv-loop μ-loop
+front-requires c κs = search needs
+
+front-requires-2 : tie.Need-front-requires-2 Inv-loop μ-loop
+front-requires-2 c κs = search needs
+
+request-requires : tie.Need-request-requires Inv-loop μ-loop
+request-requires c κs = search needs
+
+request-requires-2 : tie.Need-request-requires-2 Inv-loop μ-loop
+request-requires-2 c κs = search needs
+
+request-requires-3 : tie.Need-request-requires-3 Inv-loop μ-loop
+request-requires-3 c κs = search needs
+
+count-requires : tie.Need-count-requires Inv-loop μ-loop
+count-requires c κs = search needs
+
+loop-less : tie.Need-loop-less Inv-loop μ-loop
+loop-less c = omega (arith, c .before .before .before .before .before .before .before .before .before .before .before .before .before .before .before .before .loop-test .taken)
+
+loop-again : tie.Need-loop-again Inv-loop μ-loop
+loop-again c = tt
+
+at-end-requires : tie.Need-at-end-requires Inv-loop μ-loop
+at-end-requires c κs = search needs
 
 returns : tie.Need-returns Inv-loop μ-loop
 returns c = search needs
-
-add-i : tie.Need-add-i Inv-loop μ-loop
-add-i c = omega arith
-
-loop-less : tie.Need-loop-less Inv-loop μ-loop
-loop-less c = omega arith
-
-loop-again : tie.Need-loop-again Inv-loop μ-loop
-loop-again c = omega arith
-
-returns-2 : tie.Need-returns-2 Inv-loop μ-loop
-returns-2 c = search needs
 
 pub replay-spec : {M : Type 1} → statement M
 replay-spec =
@@ -44,12 +64,19 @@ replay-spec =
     (tie.spec
     Inv-loop
     μ-loop
+    read-word-requires
     blank-requires
     blank-requires-2
     loop-holds
-    next-requires
-    returns
-    add-i
+    sub-left
+    read-request-requires
+    front-requires
+    front-requires-2
+    request-requires
+    request-requires-2
+    request-requires-3
+    count-requires
     loop-less
     loop-again
-    returns-2)
+    at-end-requires
+    returns)

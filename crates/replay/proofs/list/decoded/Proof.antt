@@ -11,11 +11,11 @@ Inv-loop text value₀ good₀ i₀ value good i = i ≤ 16
 abbrev μ-loop : tie.MeasureT-loop
 μ-loop text value₀ good₀ i₀ value good i = 16 - i
 
-element-copy-out-if1 : tie.Need-element-copy-out-if1 Inv-loop μ-loop
-element-copy-out-if1 c = omega arith
-
 element-copy-out-good : tie.Need-element-copy-out-good Inv-loop μ-loop
 element-copy-out-good c = omega arith
+
+element-copy-out-good-2 : tie.Need-element-copy-out-good-2 Inv-loop μ-loop
+element-copy-out-good-2 c = omega arith
 
 loop-holds : tie.Need-loop-holds Inv-loop μ-loop
 loop-holds c = omega arith
@@ -44,8 +44,8 @@ decoded-spec =
     (tie.spec
     Inv-loop
     μ-loop
-    element-copy-out-if1
     element-copy-out-good
+    element-copy-out-good-2
     loop-holds
     element-copy-out-digit
     digit-requires
