@@ -1,15 +1,15 @@
--- `replay::meet_taps` meets its contract. The loop's invariant: its counter is at most 64. Assumes nothing.
-use Prim.Native.Nat.{_-_, _≤_}
+-- `replay::taps::meet_taps` meets its contract. The counter is at most 64. Assumes nothing.
+use Prim.Native.Nat.{_≤_, _-_}
 use native.Mathlib.Omega.{arith}
 use borrow.Author.Needs.{needs}
-use Rattle.replay.proofs.meet_taps.Statement.{statement}
-use Rattle.replay.proofs.meet_taps.Tie as tie
+use Rattle.replay.proofs.taps.meet_taps.Statement.{statement}
+use Rattle.replay.proofs.taps.meet_taps.Tie as tie
 
 abbrev Inv-loop : tie.InvT-loop
-Inv-loop length taps p₀ i₀ p i = i ≤ 64
+Inv-loop place stored length taps place₀ i₀ place' i = i ≤ 64
 
 abbrev μ-loop : tie.MeasureT-loop
-μ-loop length taps p₀ i₀ p i = 64 - i
+μ-loop place stored length taps place₀ i₀ place' i = 64 - i
 
 loop-holds : tie.Need-loop-holds Inv-loop μ-loop
 loop-holds c = omega arith
@@ -35,6 +35,9 @@ loop-again c = omega arith
 returns : tie.Need-returns Inv-loop μ-loop
 returns c = search needs
 
+returns-2 : tie.Need-returns-2 Inv-loop μ-loop
+returns-2 c = search needs
+
 pub meet-taps-spec : {M : Type 1} → statement M
 meet-taps-spec =
     tie.close
@@ -48,4 +51,5 @@ meet-taps-spec =
     add-i
     loop-less
     loop-again
-    returns)
+    returns
+    returns-2)

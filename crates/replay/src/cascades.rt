@@ -1,0 +1,196 @@
+// The requests of a cascade: its five designs, steps, blocks and resets. Each answers the cascade after it, and tells
+// whether its answer agreed.
+use crate::compare::capped;
+use crate::compare::float;
+use crate::compare::floats;
+use crate::compare::meet;
+use crate::compare::meet_float;
+use crate::compare::meets_answer;
+use crate::compare::meets_block;
+use crate::compare::meets_refusal;
+use crate::compare::places;
+use crate::compare::rest;
+use crate::compare::whole;
+use crate::compare::word;
+use cascade::Cascade;
+use designs::Design;
+use requests::DesignRequest;
+use sections::FirstOrder;
+use sections::Section;
+
+fn meet_section(place: usize, stored: &[u64], s: Section) -> usize {
+    let place = meet_float(place, stored, s.b0);
+    let place = meet_float(place, stored, s.b1);
+    let place = meet_float(place, stored, s.b2);
+    let place = meet_float(place, stored, s.a1);
+    meet_float(place, stored, s.a2)
+}
+
+// The first `count` sections.
+fn meet_sections(place: usize, stored: &[u64], sections: [Section; 4], count: usize) -> usize {
+    let mut place = place;
+    let mut i: usize = 0;
+    while i < 4 && i < count {
+        let s = sections[i];
+        place = meet_section(place, stored, s);
+        i += 1;
+    }
+    place
+}
+
+// The flag, and the first-order part where it is used.
+fn meet_first(place: usize, stored: &[u64], has_first: bool, f: FirstOrder) -> usize {
+    if !has_first {
+        return meet(place, stored, 0);
+    }
+    let place = meet(place, stored, 1);
+    let place = meet_float(place, stored, f.b0);
+    let place = meet_float(place, stored, f.b1);
+    meet_float(place, stored, f.a1)
+}
+
+// Whether a design's answer is as stored: 0 or its refusal number, the count, the flag and the coefficients.
+fn meets_design(stored: &[u64], refusal: u8, c: Cascade) -> bool {
+    let place = meet(0, stored, refusal as u64);
+    let place = meet(place, stored, c.count as u64);
+    let first = c.first;
+    let place = meet_first(place, stored, c.has_first, first);
+    let sections = c.sections;
+    whole(meet_sections(place, stored, sections, c.count), stored)
+}
+
+// What a design asks: an order, and two or three numbers.
+struct Wanted {
+    order: usize,
+    a: f64,
+    b: f64,
+    c: f64,
+}
+
+fn what(asked: &[u64]) -> Wanted {
+    Wanted {
+        order: word(asked, 0) as usize,
+        a: float(asked, 1),
+        b: float(asked, 2),
+        c: float(asked, 3),
+    }
+}
+
+// The design by its own function.
+fn direct(kind: usize, w: Wanted) -> Design {
+    match kind {
+        0 => designs::design_butterworth_lp(w.order, w.a, w.b),
+        1 => designs::design_butterworth_hp(w.order, w.a, w.b),
+        2 => designs::design_butterworth_bp(w.order, w.a, w.b, w.c),
+        3 => designs::design_chebyshev1_lp(w.order, w.a, w.b, w.c),
+        _ => designs::design_chebyshev2_lp(w.order, w.a, w.b, w.c),
+    }
+}
+
+// The same design as a request.
+fn as_request(kind: usize, w: Wanted) -> DesignRequest {
+    match kind {
+        0 => DesignRequest::LowPass {
+            order: w.order,
+            cutoff: w.a,
+            sample_rate: w.b,
+        },
+        1 => DesignRequest::HighPass {
+            order: w.order,
+            cutoff: w.a,
+            sample_rate: w.b,
+        },
+        2 => DesignRequest::BandPass {
+            order: w.order,
+            low: w.a,
+            high: w.b,
+            sample_rate: w.c,
+        },
+        3 => DesignRequest::Chebyshev1 {
+            order: w.order,
+            cutoff: w.a,
+            ripple_db: w.b,
+            sample_rate: w.c,
+        },
+        _ => DesignRequest::Chebyshev2 {
+            order: w.order,
+            cutoff: w.a,
+            stopband_db: w.b,
+            sample_rate: w.c,
+        },
+    }
+}
+
+// Whether the request is checked and designed as stored.
+fn meets_request(stored: &[u64], request: DesignRequest) -> bool {
+    let refusal = requests::check_request(request) as u64;
+    let d = requests::design(request);
+    (word(stored, 0) == refusal) & meets_design(stored, d.refusal, d.cascade)
+}
+
+// The design's cascade, and whether it is as stored too.
+fn taken(d: Design, stored: &[u64], agreed: &mut bool) -> Cascade {
+    *agreed = *agreed & meets_design(stored, d.refusal, d.cascade);
+    d.cascade
+}
+
+// A design by its own function and as a request.
+fn design(kind: usize, asked: &[u64], stored: &[u64], agreed: &mut bool) -> Cascade {
+    let w = what(asked);
+    *agreed = meets_request(stored, as_request(kind, w));
+    taken(direct(kind, w), stored, agreed)
+}
+
+fn step(cascade: Cascade, asked: &[u64], stored: &[u64], agreed: &mut bool) -> Cascade {
+    let u = cascade.update(float(asked, 0));
+    let answer = u.answer;
+    *agreed = meets_answer(stored, answer);
+    u.cascade
+}
+
+// A block into an output that is compared with the stored places.
+fn run_block(
+    cascade: Cascade,
+    input: &[f64],
+    output: &mut [f64],
+    stored: &[u64],
+    agreed: &mut bool,
+) -> Cascade {
+    let b = cascade.block(input, output);
+    *agreed = meets_block(stored, b.refusal, b.clouded, output);
+    b.cascade
+}
+
+// A block: how many places its output has, and the samples. One that is too long for the list is cut, so its answer
+// differs.
+fn block(cascade: Cascade, asked: &[u64], stored: &[u64], agreed: &mut bool) -> Cascade {
+    let samples = rest(asked);
+    let n = capped(samples.len());
+    let long = capped(word(asked, 0) as usize);
+    let input = floats(samples);
+    let mut output = places();
+    run_block(cascade, &input[0..n], &mut output[0..long], stored, agreed)
+}
+
+fn reset(cascade: Cascade, stored: &[u64], agreed: &mut bool) -> Cascade {
+    let r = cascade.reset();
+    *agreed = meets_refusal(stored, r.refusal);
+    r.cascade
+}
+
+// A request of the cascade, by its kind; nothing at another.
+pub(crate) fn request(
+    kind: usize,
+    cascade: Cascade,
+    asked: &[u64],
+    stored: &[u64],
+    agreed: &mut bool,
+) -> Cascade {
+    match kind {
+        0..=4 => design(kind, asked, stored, agreed),
+        5 => step(cascade, asked, stored, agreed),
+        6 => block(cascade, asked, stored, agreed),
+        7 => reset(cascade, stored, agreed),
+        _ => cascade,
+    }
+}

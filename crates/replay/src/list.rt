@@ -1,0 +1,109 @@
+// Reading the list. A word is 16 hexadecimal digits in upper case, and a space or a line's end behind them.
+use crate::kinds::KINDS;
+
+// The most words that a request asks, and the most that an answer has.
+pub(crate) const MOST: usize = 512;
+
+// The bytes of a word.
+const WIDTH: usize = 17;
+
+// A word, and whether it was one.
+pub(crate) struct Word {
+    pub value: u64,
+    pub good: bool,
+}
+
+// The value of a digit, or 16.
+fn digit(b: u8) -> u64 {
+    if b'0' <= b && b <= b'9' {
+        return (b - b'0') as u64;
+    }
+    if b'A' <= b && b <= b'F' {
+        return ((b - b'A') as u64) + 10;
+    }
+    16
+}
+
+// The word at the front of the text.
+fn decoded(text: &[u8; WIDTH]) -> Word {
+    let mut value: u64 = 0;
+    let mut good = (text[16] == b' ') | (text[16] == b'\n');
+    let mut i: usize = 0;
+    while i < 16 {
+        let d = digit(text[i]);
+        good = good & (d < 16);
+        value = (value << 4) | d;
+        i += 1;
+    }
+    Word { value, good }
+}
+
+// Reads the next word. It is not good where the file ends or has something else.
+pub(crate) fn read_word(fd: i32) -> Word {
+    let mut text = [0u8; WIDTH];
+    if io::read_full(fd, &mut text) != WIDTH {
+        return Word {
+            value: 0,
+            good: false,
+        };
+    }
+    decoded(&text)
+}
+
+// Reads n words into the first places. Answers whether there is room and all were good.
+fn read_words(fd: i32, n: usize, words: &mut [u64; MOST]) -> bool {
+    let mut good = n <= MOST;
+    let mut i: usize = 0;
+    while i < MOST && i < n {
+        let w = read_word(fd);
+        words[i] = w.value;
+        good = good & w.good;
+        i += 1;
+    }
+    good
+}
+
+// A request's kind, how many words it asks, how many the stored answer has, and whether it could be read.
+pub(crate) struct Head {
+    pub kind: usize,
+    pub asked: usize,
+    pub stored: usize,
+    pub good: bool,
+}
+
+fn read_head(fd: i32) -> Head {
+    let kind = read_word(fd);
+    let asked = read_word(fd);
+    let stored = read_word(fd);
+    Head {
+        kind: kind.value as usize,
+        asked: asked.value as usize,
+        stored: stored.value as usize,
+        good: kind.good & asked.good & stored.good & (kind.value < (KINDS as u64)),
+    }
+}
+
+// Reads the next request: its head, the words asked and the stored ones.
+pub(crate) fn read_request(fd: i32, asked: &mut [u64; MOST], stored: &mut [u64; MOST]) -> Head {
+    let h = read_head(fd);
+    let one = read_words(fd, h.asked, asked);
+    let two = read_words(fd, h.stored, stored);
+    Head {
+        kind: h.kind,
+        asked: h.asked,
+        stored: h.stored,
+        good: h.good & one & two,
+    }
+}
+
+// The first n words.
+pub(crate) fn front(words: &[u64; MOST], n: usize) -> &[u64] {
+    let all = &words[..];
+    if n < all.len() { &all[0..n] } else { all }
+}
+
+// Whether nothing is left of the file.
+pub(crate) fn at_end(fd: i32) -> bool {
+    let mut more = [0u8; 1];
+    io::read_full(fd, &mut more) == 0
+}

@@ -1,0 +1,162 @@
+// The requests of a tap record: its design, ready-made taps, steps, blocks and resets. Each answers the record after it,
+// and tells whether its answer agreed.
+use crate::compare::capped;
+use crate::compare::float;
+use crate::compare::floats;
+use crate::compare::meet;
+use crate::compare::meet_float;
+use crate::compare::meets_answer;
+use crate::compare::meets_block;
+use crate::compare::meets_refusal;
+use crate::compare::places;
+use crate::compare::rest;
+use crate::compare::whole;
+use crate::compare::word;
+use fir::Made;
+use fir::TapRecord;
+use requests::DesignRequest;
+use windows::WindowType;
+
+// The first `length` taps.
+fn meet_taps(
+    place: usize,
+    stored: &[u64],
+    taps: [f64; TapRecord::MAX_TAPS],
+    length: usize,
+) -> usize {
+    let mut place = place;
+    let mut i: usize = 0;
+    while i < TapRecord::MAX_TAPS && i < length {
+        place = meet_float(place, stored, taps[i]);
+        i += 1;
+    }
+    place
+}
+
+// Whether the making of a record is as stored: 0 or its refusal number, the number of taps, the window's code and the
+// taps.
+fn meets_made(stored: &[u64], refusal: u8, filter: TapRecord) -> bool {
+    let place = meet(0, stored, refusal as u64);
+    let place = meet(place, stored, filter.length as u64);
+    let place = meet(place, stored, filter.window as u64);
+    let taps = filter.taps;
+    whole(meet_taps(place, stored, taps, filter.length), stored)
+}
+
+// The window of a code.
+fn window(code: u64) -> WindowType {
+    match code {
+        0 => WindowType::Rectangular,
+        1 => WindowType::Hamming,
+        2 => WindowType::Hanning,
+        _ => WindowType::Blackman,
+    }
+}
+
+// What a design asks: a number of taps, a cutoff and a window.
+struct Wanted {
+    taps: usize,
+    cutoff: f64,
+    window: WindowType,
+}
+
+fn what(asked: &[u64]) -> Wanted {
+    Wanted {
+        taps: word(asked, 0) as usize,
+        cutoff: float(asked, 1),
+        window: window(word(asked, 2)),
+    }
+}
+
+// Whether the design as a request is checked and designed as stored.
+fn meets_request(stored: &[u64], w: Wanted) -> bool {
+    let window = w.window;
+    let request = DesignRequest::Fir {
+        taps: w.taps,
+        cutoff: w.cutoff,
+        window,
+    };
+    let refusal = requests::check_request(request) as u64;
+    let d = requests::design(request);
+    (word(stored, 0) == refusal) & meets_made(stored, d.refusal, d.filter)
+}
+
+// The record that was made, and whether it is as stored too.
+fn taken(m: Made, stored: &[u64], agreed: &mut bool) -> TapRecord {
+    *agreed = *agreed & meets_made(stored, m.refusal, m.filter);
+    m.filter
+}
+
+// A design by its own function and as a request.
+fn design(asked: &[u64], stored: &[u64], agreed: &mut bool) -> TapRecord {
+    let w = what(asked);
+    let window = w.window;
+    *agreed = meets_request(stored, w);
+    taken(
+        windows::design_fir_lp(w.taps, w.cutoff, window),
+        stored,
+        agreed,
+    )
+}
+
+fn ready_made(asked: &[u64], stored: &[u64], agreed: &mut bool) -> TapRecord {
+    let n = capped(asked.len());
+    let coeffs = floats(asked);
+    *agreed = true;
+    taken(TapRecord::from_coeffs(&coeffs[0..n]), stored, agreed)
+}
+
+fn step(filter: TapRecord, asked: &[u64], stored: &[u64], agreed: &mut bool) -> TapRecord {
+    let u = filter.update(float(asked, 0));
+    let answer = u.answer;
+    *agreed = meets_answer(stored, answer);
+    u.filter
+}
+
+// A block into an output that is compared with the stored places.
+fn run_block(
+    filter: TapRecord,
+    input: &[f64],
+    output: &mut [f64],
+    stored: &[u64],
+    agreed: &mut bool,
+) -> TapRecord {
+    let b = filter.block(input, output);
+    *agreed = meets_block(stored, b.refusal, b.clouded, output);
+    b.filter
+}
+
+// A block: how many places its output has, and the samples. One that is too long for the list is cut, so its answer
+// differs.
+fn block(filter: TapRecord, asked: &[u64], stored: &[u64], agreed: &mut bool) -> TapRecord {
+    let samples = rest(asked);
+    let n = capped(samples.len());
+    let long = capped(word(asked, 0) as usize);
+    let input = floats(samples);
+    let mut output = places();
+    run_block(filter, &input[0..n], &mut output[0..long], stored, agreed)
+}
+
+fn reset(filter: TapRecord, stored: &[u64], agreed: &mut bool) -> TapRecord {
+    let r = filter.reset();
+    *agreed = meets_refusal(stored, r.refusal);
+    r.filter
+}
+
+// A request of the tap record, by its kind; nothing at another.
+pub(crate) fn request(
+    kind: usize,
+    filter: TapRecord,
+    asked: &[u64],
+    stored: &[u64],
+    agreed: &mut bool,
+) -> TapRecord {
+    match kind {
+        8 => design(asked, stored, agreed),
+        9 => ready_made(asked, stored, agreed),
+        10 => step(filter, asked, stored, agreed),
+        11 => block(filter, asked, stored, agreed),
+        12 => reset(filter, stored, agreed),
+        _ => filter,
+    }
+}
