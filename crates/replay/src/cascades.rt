@@ -146,19 +146,6 @@ fn step(cascade: Cascade, asked: &[u64], stored: &[u64], agreed: &mut bool) -> C
     u.cascade
 }
 
-// A block into an output that is compared with the stored places.
-fn run_block(
-    cascade: Cascade,
-    input: &[f64],
-    output: &mut [f64],
-    stored: &[u64],
-    agreed: &mut bool,
-) -> Cascade {
-    let b = cascade.block(input, output);
-    *agreed = meets_block(stored, b.refusal, b.clouded, output);
-    b.cascade
-}
-
 // A block: how many samples it has and how many places its output, and the samples. One that is too long is cut, so that
 // its answer differs.
 fn block(cascade: Cascade, asked: &[u64], stored: &[u64], agreed: &mut bool) -> Cascade {
@@ -166,7 +153,9 @@ fn block(cascade: Cascade, asked: &[u64], stored: &[u64], agreed: &mut bool) -> 
     let long = capped(word(asked, 1) as usize);
     let input = floats(asked, 2);
     let mut output = places();
-    run_block(cascade, &input[0..n], &mut output[0..long], stored, agreed)
+    let b = cascade.block(&input[0..n], &mut output[0..long]);
+    *agreed = meets_block(stored, b.refusal, b.clouded, &output, long);
+    b.cascade
 }
 
 fn reset(cascade: Cascade, stored: &[u64], agreed: &mut bool) -> Cascade {

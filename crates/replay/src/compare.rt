@@ -8,6 +8,9 @@ use runs::Answer;
 
 const NONE: usize = usize::MAX;
 
+// The most numbers that a request has: a block's samples or places, or ready-made taps.
+pub(crate) const MOST: usize = 256;
+
 // Compares w with the stored word at the place.
 pub(crate) fn meet(place: usize, stored: &[u64], w: u64) -> usize {
     if place < stored.len() {
@@ -43,21 +46,28 @@ pub(crate) fn meets_answer(stored: &[u64], a: Answer) -> bool {
     meet(meet(0, stored, code), stored, value) == stored.len()
 }
 
-fn meet_floats(place: usize, stored: &[u64], xs: &[f64]) -> usize {
+// The first n numbers.
+fn meet_floats(place: usize, stored: &[u64], xs: &[f64; MOST], n: usize) -> usize {
     let mut place = place;
     let mut i: usize = 0;
-    while i < xs.len() {
+    while i < MOST && i < n {
         place = meet_float(place, stored, xs[i]);
         i += 1;
     }
     place
 }
 
-// Whether a block's answer is as stored: 0 or the refusal number, the count of Clouded, and the output's places.
-pub(crate) fn meets_block(stored: &[u64], refusal: u8, clouded: usize, output: &[f64]) -> bool {
+// Whether a block's answer is as stored: 0 or the refusal number, the count of Clouded, and the output's first places.
+pub(crate) fn meets_block(
+    stored: &[u64],
+    refusal: u8,
+    clouded: usize,
+    output: &[f64; MOST],
+    long: usize,
+) -> bool {
     let place = meet(0, stored, refusal as u64);
     let place = meet(place, stored, clouded as u64);
-    meet_floats(place, stored, output) == stored.len()
+    meet_floats(place, stored, output, long) == stored.len()
 }
 
 // The word at a place, or 0 past the end.
@@ -68,9 +78,6 @@ pub(crate) fn word(words: &[u64], at: usize) -> u64 {
 pub(crate) fn float(words: &[u64], at: usize) -> f64 {
     ieee::from_bits(word(words, at))
 }
-
-// The most numbers that a request has: a block's samples or places, or ready-made taps.
-pub(crate) const MOST: usize = 256;
 
 // At most MOST.
 pub(crate) fn capped(n: usize) -> usize

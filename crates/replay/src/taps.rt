@@ -111,19 +111,6 @@ fn step(filter: TapRecord, asked: &[u64], stored: &[u64], agreed: &mut bool) -> 
     u.filter
 }
 
-// A block into an output that is compared with the stored places.
-fn run_block(
-    filter: TapRecord,
-    input: &[f64],
-    output: &mut [f64],
-    stored: &[u64],
-    agreed: &mut bool,
-) -> TapRecord {
-    let b = filter.block(input, output);
-    *agreed = meets_block(stored, b.refusal, b.clouded, output);
-    b.filter
-}
-
 // A block: how many samples it has and how many places its output, and the samples. One that is too long is cut, so that
 // its answer differs.
 fn block(filter: TapRecord, asked: &[u64], stored: &[u64], agreed: &mut bool) -> TapRecord {
@@ -131,7 +118,9 @@ fn block(filter: TapRecord, asked: &[u64], stored: &[u64], agreed: &mut bool) ->
     let long = capped(word(asked, 1) as usize);
     let input = floats(asked, 2);
     let mut output = places();
-    run_block(filter, &input[0..n], &mut output[0..long], stored, agreed)
+    let b = filter.block(&input[0..n], &mut output[0..long]);
+    *agreed = meets_block(stored, b.refusal, b.clouded, &output, long);
+    b.filter
 }
 
 fn reset(filter: TapRecord, stored: &[u64], agreed: &mut bool) -> TapRecord {
