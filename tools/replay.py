@@ -16,7 +16,7 @@ asked and the answer's words. A float's word is its bits, and any NaN's is 7FF80
 - a design or ready-made taps: the refusal number or 0, the answer's two counts, which are 0 of a refused one's blank record,
   and its numbers
 - a step: 0 (clear) or 1 (clouded) and the number; or 2 and the refusal number
-- a block, whose output's length stands before its samples: the refusal number or 0, the count of Clouded, the places
+- a block, which asks how many samples, how long an output, and the samples: the refusal number or 0, the count of Clouded, the places
 - a reset: the refusal number or 0
 """
 import re
@@ -47,7 +47,7 @@ def asked(kind, rest):
     if kind == "fir":
         return [int(rest[0]), number(rest[1]), WINDOWS.index(rest[2])]
     if kind in ("cblock", "fblock"):
-        return [int(rest[-1])] + numbers(rest[1:-1])
+        return [int(rest[0]), int(rest[-1])] + numbers(rest[1:-1])
     if KINDS.index(kind) < 5:
         return [int(rest[0])] + numbers(rest[1:])
     return numbers(rest)

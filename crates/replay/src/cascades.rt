@@ -9,8 +9,6 @@ use crate::compare::meets_answer;
 use crate::compare::meets_block;
 use crate::compare::meets_refusal;
 use crate::compare::places;
-use crate::compare::rest;
-use crate::compare::whole;
 use crate::compare::word;
 use cascade::Cascade;
 use designs::Design;
@@ -56,7 +54,7 @@ fn meets_design(stored: &[u64], refusal: u8, c: Cascade) -> bool {
     let first = c.first;
     let place = meet_first(place, stored, c.has_first, first);
     let sections = c.sections;
-    whole(meet_sections(place, stored, sections, c.count), stored)
+    meet_sections(place, stored, sections, c.count) == stored.len()
 }
 
 // What a design asks: an order, and two or three numbers.
@@ -148,28 +146,16 @@ fn step(cascade: Cascade, asked: &[u64], stored: &[u64], agreed: &mut bool) -> C
     u.cascade
 }
 
-// A block into an output that is compared with the stored places.
-fn run_block(
-    cascade: Cascade,
-    input: &[f64],
-    output: &mut [f64],
-    stored: &[u64],
-    agreed: &mut bool,
-) -> Cascade {
-    let b = cascade.block(input, output);
-    *agreed = meets_block(stored, b.refusal, b.clouded, output);
-    b.cascade
-}
-
-// A block: how many places its output has, and the samples. One that is too long for the list is cut, so its answer
-// differs.
+// A block: how many samples it has and how many places its output, and the samples. One that is too long is cut, so that
+// its answer differs.
 fn block(cascade: Cascade, asked: &[u64], stored: &[u64], agreed: &mut bool) -> Cascade {
-    let samples = rest(asked);
-    let n = capped(samples.len());
-    let long = capped(word(asked, 0) as usize);
-    let input = floats(samples);
+    let n = capped(word(asked, 0) as usize);
+    let long = capped(word(asked, 1) as usize);
+    let input = floats(asked, 2);
     let mut output = places();
-    run_block(cascade, &input[0..n], &mut output[0..long], stored, agreed)
+    let b = cascade.block(&input[0..n], &mut output[0..long]);
+    *agreed = meets_block(stored, b.refusal, b.clouded, &output, long);
+    b.cascade
 }
 
 fn reset(cascade: Cascade, stored: &[u64], agreed: &mut bool) -> Cascade {

@@ -8,6 +8,9 @@ use runs::Answer;
 
 const NONE: usize = usize::MAX;
 
+// The most numbers that a request has: a block's samples or places, or ready-made taps.
+pub(crate) const MOST: usize = 256;
+
 // Compares w with the stored word at the place.
 pub(crate) fn meet(place: usize, stored: &[u64], w: u64) -> usize {
     if place < stored.len() {
@@ -23,54 +26,48 @@ pub(crate) fn meet_float(place: usize, stored: &[u64], x: f64) -> usize {
     meet(place, stored, ieee::to_bits(x))
 }
 
-// Whether all stored words have agreed.
-pub(crate) fn whole(place: usize, stored: &[u64]) -> bool {
-    place == stored.len()
-}
-
 // Whether the stored answer is this refusal number, or 0.
 pub(crate) fn meets_refusal(stored: &[u64], refusal: u8) -> bool {
-    whole(meet(0, stored, refusal as u64), stored)
+    meet(0, stored, refusal as u64) == stored.len()
 }
 
-// A sample's answer in words: 0 for Clear, 1 for Clouded, 2 for Refused.
-fn code(a: Answer) -> u64 {
-    match a {
+// Whether a sample's answer is as stored: 0 for Clear or 1 for Clouded and the number, or 2 and the refusal number.
+pub(crate) fn meets_answer(stored: &[u64], a: Answer) -> bool {
+    let code = match a {
         Answer::Clear(_) => 0,
         Answer::Clouded(_) => 1,
         Answer::Refused(_) => 2,
-    }
-}
-
-// Then the number, or the refusal number.
-fn value(a: Answer) -> u64 {
-    match a {
+    };
+    let value = match a {
         Answer::Clear(y) => ieee::to_bits(y),
         Answer::Clouded(y) => ieee::to_bits(y),
         Answer::Refused(n) => n as u64,
-    }
+    };
+    meet(meet(0, stored, code), stored, value) == stored.len()
 }
 
-pub(crate) fn meets_answer(stored: &[u64], a: Answer) -> bool {
-    let place = meet(0, stored, code(a));
-    whole(meet(place, stored, value(a)), stored)
-}
-
-fn meet_floats(place: usize, stored: &[u64], xs: &[f64]) -> usize {
+// The first n numbers.
+fn meet_floats(place: usize, stored: &[u64], xs: &[f64; MOST], n: usize) -> usize {
     let mut place = place;
     let mut i: usize = 0;
-    while i < xs.len() {
+    while i < MOST && i < n {
         place = meet_float(place, stored, xs[i]);
         i += 1;
     }
     place
 }
 
-// Whether a block's answer is as stored: 0 or the refusal number, the count of Clouded, and the output's places.
-pub(crate) fn meets_block(stored: &[u64], refusal: u8, clouded: usize, output: &[f64]) -> bool {
+// Whether a block's answer is as stored: 0 or the refusal number, the count of Clouded, and the output's first places.
+pub(crate) fn meets_block(
+    stored: &[u64],
+    refusal: u8,
+    clouded: usize,
+    output: &[f64; MOST],
+    long: usize,
+) -> bool {
     let place = meet(0, stored, refusal as u64);
     let place = meet(place, stored, clouded as u64);
-    whole(meet_floats(place, stored, output), stored)
+    meet_floats(place, stored, output, long) == stored.len()
 }
 
 // The word at a place, or 0 past the end.
@@ -82,14 +79,6 @@ pub(crate) fn float(words: &[u64], at: usize) -> f64 {
     ieee::from_bits(word(words, at))
 }
 
-// The words behind the first.
-pub(crate) fn rest(words: &[u64]) -> &[u64] {
-    if words.len() > 0 { &words[1..] } else { words }
-}
-
-// The most numbers that a request has: a block's samples or places, or ready-made taps.
-pub(crate) const MOST: usize = 256;
-
 // At most MOST.
 pub(crate) fn capped(n: usize) -> usize
     ensures { λ r. ⌜ r ≤ 256 ⌝ }
@@ -97,14 +86,15 @@ pub(crate) fn capped(n: usize) -> usize
     if n < MOST { n } else { MOST }
 }
 
-// The words as numbers, from the front.
-pub(crate) fn floats(words: &[u64]) -> [f64; MOST]
+// The words as numbers, from a place on.
+pub(crate) fn floats(words: &[u64], from: usize) -> [f64; MOST]
+    requires { ⌜ from ≤ 2 ⌝ }
     ensures { λ r. ⌜ 256 ≡ length r ⌝ }
 {
     let mut xs = [0.0; MOST];
     let mut i: usize = 0;
     while i < MOST {
-        xs[i] = float(words, i);
+        xs[i] = float(words, from + i);
         i += 1;
     }
     xs

@@ -1,7 +1,6 @@
 // The requests of the elementary functions.
 use crate::compare::float;
 use crate::compare::meet_float;
-use crate::compare::whole;
 use crate::kinds::SQRT;
 
 fn answer(kind: usize, x: f64) -> f64 {
@@ -21,5 +20,5 @@ fn answer(kind: usize, x: f64) -> f64 {
 // Whether it is such a request, and the answer as stored.
 pub(crate) fn request(kind: usize, asked: &[u64], stored: &[u64]) -> bool {
     let y = answer(kind, float(asked, 0));
-    (kind >= SQRT) & whole(meet_float(0, stored, y), stored)
+    (kind >= SQRT) & (meet_float(0, stored, y) == stored.len())
 }

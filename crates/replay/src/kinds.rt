@@ -12,27 +12,22 @@ pub(crate) const SQRT: usize = 13;
 // The bytes of a kind's name, with a space behind it.
 const WIDTH: usize = 11;
 
+// A count for each kind, and behind them one for all.
+pub(crate) const COUNTS: usize = KINDS + 1;
+
 // One more request of the kind, and one more that agreed where it is alike. No list is so long that a count wraps.
 pub(crate) fn count(
-    counts: &mut [u64; KINDS],
-    agreed: &mut [u64; KINDS],
+    counts: &mut [u64; COUNTS],
+    agreed: &mut [u64; COUNTS],
     kind: usize,
     alike: bool,
 ) {
     if kind < KINDS {
         counts[kind] = std::num::wrapping_add_u64(counts[kind], 1);
+        counts[KINDS] = std::num::wrapping_add_u64(counts[KINDS], 1);
         agreed[kind] = std::num::wrapping_add_u64(agreed[kind], alike as u64);
+        agreed[KINDS] = std::num::wrapping_add_u64(agreed[KINDS], alike as u64);
     }
-}
-
-fn total(counts: &[u64; KINDS]) -> u64 {
-    let mut sum: u64 = 0;
-    let mut i: usize = 0;
-    while i < KINDS {
-        sum = std::num::wrapping_add_u64(sum, counts[i]);
-        i += 1;
-    }
-    sum
 }
 
 // Name i of a row of names.
@@ -75,14 +70,14 @@ fn print_kind(kind: usize, asked: u64, agreed: u64) {
 }
 
 // A line of all, and one of each kind.
-pub(crate) fn report(asked: &[u64; KINDS], agreed: &[u64; KINDS]) {
-    io::print_decimal(STDOUT_FILENO, total(asked));
+pub(crate) fn report(counts: &[u64; COUNTS], agreed: &[u64; COUNTS]) {
+    io::print_decimal(STDOUT_FILENO, counts[KINDS]);
     io::write_all(STDOUT_FILENO, b" requests, ");
-    io::print_decimal(STDOUT_FILENO, total(agreed));
+    io::print_decimal(STDOUT_FILENO, agreed[KINDS]);
     io::write_all(STDOUT_FILENO, b" agree with the Rust\n");
     let mut i: usize = 0;
     while i < KINDS {
-        print_kind(i, asked[i], agreed[i]);
+        print_kind(i, counts[i], agreed[i]);
         i += 1;
     }
 }

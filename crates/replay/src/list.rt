@@ -71,28 +71,21 @@ pub(crate) struct Head {
     pub good: bool,
 }
 
-fn read_head(fd: i32) -> Head {
-    let kind = read_word(fd);
-    let asked = read_word(fd);
-    let stored = read_word(fd);
-    Head {
-        kind: kind.value as usize,
-        asked: asked.value as usize,
-        stored: stored.value as usize,
-        good: kind.good & asked.good & stored.good & (kind.value < (KINDS as u64)),
-    }
-}
-
 // Reads the next request: its head, the words asked and the stored ones.
 pub(crate) fn read_request(fd: i32, asked: &mut [u64; MOST], stored: &mut [u64; MOST]) -> Head {
-    let h = read_head(fd);
-    let one = read_words(fd, h.asked, asked);
-    let two = read_words(fd, h.stored, stored);
+    let kind = read_word(fd);
+    let n = read_word(fd);
+    let m = read_word(fd);
+    let good = kind.good & n.good & m.good & (kind.value < (KINDS as u64));
+    let n = n.value as usize;
+    let m = m.value as usize;
+    let good = good & read_words(fd, n, asked);
+    let good = good & read_words(fd, m, stored);
     Head {
-        kind: h.kind,
-        asked: h.asked,
-        stored: h.stored,
-        good: h.good & one & two,
+        kind: kind.value as usize,
+        asked: n,
+        stored: m,
+        good,
     }
 }
 
@@ -100,10 +93,4 @@ pub(crate) fn read_request(fd: i32, asked: &mut [u64; MOST], stored: &mut [u64; 
 pub(crate) fn front(words: &[u64; MOST], n: usize) -> &[u64] {
     let all = &words[..];
     if n < all.len() { &all[0..n] } else { all }
-}
-
-// Whether nothing is left of the file.
-pub(crate) fn at_end(fd: i32) -> bool {
-    let mut more = [0u8; 1];
-    io::read_full(fd, &mut more) == 0
 }

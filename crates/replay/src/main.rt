@@ -10,12 +10,12 @@ mod taps;
 
 use cascade::Cascade;
 use fir::TapRecord;
-use kinds::KINDS;
+use kinds::COUNTS;
 use libc::STDOUT_FILENO;
 
 // Replays the list, and counts the requests of each kind and those that agreed. Answers whether the list is whole: so many
-// requests as it says, and nothing more. Each request goes to the three groups of kinds, of which one takes it.
-fn replay(fd: i32, counts: &mut [u64; KINDS], agreed: &mut [u64; KINDS]) -> bool {
+// requests as it says, and no more. Each request goes to the three groups of kinds, of which one takes it.
+fn replay(fd: i32, counts: &mut [u64; COUNTS], agreed: &mut [u64; COUNTS]) -> bool {
     let requests = list::read_word(fd);
     let mut cascade = Cascade::blank();
     let mut filter = TapRecord::blank();
@@ -34,7 +34,8 @@ fn replay(fd: i32, counts: &mut [u64; KINDS], agreed: &mut [u64; KINDS]) -> bool
         kinds::count(counts, agreed, h.kind, alike);
         good = h.good;
     }
-    good & list::at_end(fd)
+    let more = list::read_word(fd);
+    good & !more.good
 }
 
 fn main() {
@@ -44,8 +45,8 @@ fn main() {
         os::fail(path);
         return;
     }
-    let mut counts = [0u64; KINDS];
-    let mut agreed = [0u64; KINDS];
+    let mut counts = [0u64; COUNTS];
+    let mut agreed = [0u64; COUNTS];
     if replay(fd, &mut counts, &mut agreed) {
         kinds::report(&counts, &agreed);
     } else {

@@ -9,8 +9,6 @@ use crate::compare::meets_answer;
 use crate::compare::meets_block;
 use crate::compare::meets_refusal;
 use crate::compare::places;
-use crate::compare::rest;
-use crate::compare::whole;
 use crate::compare::word;
 use fir::Made;
 use fir::TapRecord;
@@ -40,7 +38,7 @@ fn meets_made(stored: &[u64], refusal: u8, filter: TapRecord) -> bool {
     let place = meet(place, stored, filter.length as u64);
     let place = meet(place, stored, filter.window as u64);
     let taps = filter.taps;
-    whole(meet_taps(place, stored, taps, filter.length), stored)
+    meet_taps(place, stored, taps, filter.length) == stored.len()
 }
 
 // The window of a code.
@@ -101,7 +99,7 @@ fn design(asked: &[u64], stored: &[u64], agreed: &mut bool) -> TapRecord {
 
 fn ready_made(asked: &[u64], stored: &[u64], agreed: &mut bool) -> TapRecord {
     let n = capped(asked.len());
-    let coeffs = floats(asked);
+    let coeffs = floats(asked, 0);
     *agreed = true;
     taken(TapRecord::from_coeffs(&coeffs[0..n]), stored, agreed)
 }
@@ -113,28 +111,16 @@ fn step(filter: TapRecord, asked: &[u64], stored: &[u64], agreed: &mut bool) -> 
     u.filter
 }
 
-// A block into an output that is compared with the stored places.
-fn run_block(
-    filter: TapRecord,
-    input: &[f64],
-    output: &mut [f64],
-    stored: &[u64],
-    agreed: &mut bool,
-) -> TapRecord {
-    let b = filter.block(input, output);
-    *agreed = meets_block(stored, b.refusal, b.clouded, output);
-    b.filter
-}
-
-// A block: how many places its output has, and the samples. One that is too long for the list is cut, so its answer
-// differs.
+// A block: how many samples it has and how many places its output, and the samples. One that is too long is cut, so that
+// its answer differs.
 fn block(filter: TapRecord, asked: &[u64], stored: &[u64], agreed: &mut bool) -> TapRecord {
-    let samples = rest(asked);
-    let n = capped(samples.len());
-    let long = capped(word(asked, 0) as usize);
-    let input = floats(samples);
+    let n = capped(word(asked, 0) as usize);
+    let long = capped(word(asked, 1) as usize);
+    let input = floats(asked, 2);
     let mut output = places();
-    run_block(filter, &input[0..n], &mut output[0..long], stored, agreed)
+    let b = filter.block(&input[0..n], &mut output[0..long]);
+    *agreed = meets_block(stored, b.refusal, b.clouded, &output, long);
+    b.filter
 }
 
 fn reset(filter: TapRecord, stored: &[u64], agreed: &mut bool) -> TapRecord {

@@ -52,8 +52,8 @@ loop-less c = omega (arith, c .before .before .before .before .before .before .b
 loop-again : tie.Need-loop-again Inv-loop μ-loop
 loop-again c = tt
 
-at-end-requires : tie.Need-at-end-requires Inv-loop μ-loop
-at-end-requires c κs = search needs
+read-word-requires-2 : tie.Need-read-word-requires-2 Inv-loop μ-loop
+read-word-requires-2 c κs = search needs
 
 returns : tie.Need-returns Inv-loop μ-loop
 returns c = search needs
@@ -78,5 +78,5 @@ replay-spec =
     count-requires
     loop-less
     loop-again
-    at-end-requires
+    read-word-requires-2
     returns)

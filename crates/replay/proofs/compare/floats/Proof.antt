@@ -1,20 +1,23 @@
 -- `replay::compare::floats` meets its contract. The counter is at most 256, and the array keeps its length. Assumes nothing.
 use Prim.Native.Nat.{_≤_, _-_}
-use mathlib.Core.Path.{_≡_}
-use lib.ListN.{length, length-set}
 use native.Mathlib.Omega.{arith}
 use borrow.Author.Needs.{needs}
+use mathlib.Core.Path.{_≡_}
+use lib.ListN.{length, length-set}
 use Rattle.replay.proofs.compare.floats.Statement.{statement}
 use Rattle.replay.proofs.compare.floats.Tie as tie
 
 abbrev Inv-loop : tie.InvT-loop
-Inv-loop words xs₀ i₀ xs i = (i ≤ 256) × (256 ≡ length xs)
+Inv-loop words from xs₀ i₀ xs i = (i ≤ 256) × (256 ≡ length xs)
 
 abbrev μ-loop : tie.MeasureT-loop
-μ-loop words xs₀ i₀ xs i = 256 - i
+μ-loop words from xs₀ i₀ xs i = 256 - i
 
 loop-holds : tie.Need-loop-holds Inv-loop μ-loop
 loop-holds c = search needs
+
+add-float : tie.Need-add-float Inv-loop μ-loop
+add-float c = omega arith
 
 float-requires : tie.Need-float-requires Inv-loop μ-loop
 float-requires c κs = search needs
@@ -44,6 +47,7 @@ floats-spec =
     Inv-loop
     μ-loop
     loop-holds
+    add-float
     float-requires
     mul-xs
     array-write-xs

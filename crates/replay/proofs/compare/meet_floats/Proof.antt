@@ -1,16 +1,15 @@
--- `replay::compare::meet_floats` meets its contract. The counter is at most the length. Assumes nothing.
+-- `replay::compare::meet_floats` meets its contract. The counter is at most 256. Assumes nothing.
 use Prim.Native.Nat.{_≤_, _-_}
 use native.Mathlib.Omega.{arith}
 use borrow.Author.Needs.{needs}
-use lib.ListN.{length}
 use Rattle.replay.proofs.compare.meet_floats.Statement.{statement}
 use Rattle.replay.proofs.compare.meet_floats.Tie as tie
 
 abbrev Inv-loop : tie.InvT-loop
-Inv-loop place stored xs place₀ i₀ place' i = i ≤ length xs
+Inv-loop place stored xs n place₀ i₀ place' i = i ≤ 256
 
 abbrev μ-loop : tie.MeasureT-loop
-μ-loop place stored xs place₀ i₀ place' i = length xs - i
+μ-loop place stored xs n place₀ i₀ place' i = 256 - i
 
 loop-holds : tie.Need-loop-holds Inv-loop μ-loop
 loop-holds c = omega arith
@@ -18,8 +17,8 @@ loop-holds c = omega arith
 mul-meet-float : tie.Need-mul-meet-float Inv-loop μ-loop
 mul-meet-float c = omega arith
 
-shared-slice-read-meet-float : tie.Need-shared-slice-read-meet-float Inv-loop μ-loop
-shared-slice-read-meet-float c = omega arith
+element-copy-out-meet-float : tie.Need-element-copy-out-meet-float Inv-loop μ-loop
+element-copy-out-meet-float c = omega arith
 
 meet-float-requires : tie.Need-meet-float-requires Inv-loop μ-loop
 meet-float-requires c κs = search needs
@@ -36,6 +35,9 @@ loop-again c = omega arith
 returns : tie.Need-returns Inv-loop μ-loop
 returns c = search needs
 
+returns-2 : tie.Need-returns-2 Inv-loop μ-loop
+returns-2 c = search needs
+
 pub meet-floats-spec : {M : Type 1} → statement M
 meet-floats-spec =
     tie.close
@@ -44,9 +46,10 @@ meet-floats-spec =
     μ-loop
     loop-holds
     mul-meet-float
-    shared-slice-read-meet-float
+    element-copy-out-meet-float
     meet-float-requires
     add-i
     loop-less
     loop-again
-    returns)
+    returns
+    returns-2)

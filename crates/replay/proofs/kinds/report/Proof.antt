@@ -6,13 +6,13 @@ use Rattle.replay.proofs.kinds.report.Statement.{statement}
 use Rattle.replay.proofs.kinds.report.Tie as tie
 
 abbrev Inv-loop : tie.InvT-loop
-Inv-loop asked agreed i₀ i = i ≤ 22
+Inv-loop counts agreed i₀ i = i ≤ 22
 
 abbrev μ-loop : tie.MeasureT-loop
-μ-loop asked agreed i₀ i = 22 - i
+μ-loop counts agreed i₀ i = 22 - i
 
-total-requires : tie.Need-total-requires Inv-loop μ-loop
-total-requires c κs = search needs
+element-copy-out-print-decimal : tie.Need-element-copy-out-print-decimal Inv-loop μ-loop
+element-copy-out-print-decimal c = omega arith
 
 print-decimal-requires : tie.Need-print-decimal-requires Inv-loop μ-loop
 print-decimal-requires c κs = search needs
@@ -23,8 +23,8 @@ slice-aggregate-write-all c = omega arith
 write-all-requires : tie.Need-write-all-requires Inv-loop μ-loop
 write-all-requires c κs = search needs
 
-total-requires-2 : tie.Need-total-requires-2 Inv-loop μ-loop
-total-requires-2 c κs = search needs
+element-copy-out-print-decimal-2 : tie.Need-element-copy-out-print-decimal-2 Inv-loop μ-loop
+element-copy-out-print-decimal-2 c = omega arith
 
 print-decimal-requires-2 : tie.Need-print-decimal-requires-2 Inv-loop μ-loop
 print-decimal-requires-2 c κs = search needs
@@ -71,11 +71,11 @@ report-spec =
     (tie.spec
     Inv-loop
     μ-loop
-    total-requires
+    element-copy-out-print-decimal
     print-decimal-requires
     slice-aggregate-write-all
     write-all-requires
-    total-requires-2
+    element-copy-out-print-decimal-2
     print-decimal-requires-2
     slice-aggregate-write-all-2
     write-all-requires-2
