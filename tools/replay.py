@@ -3,20 +3,23 @@
 
 Usage, from the repository's root: tools/replay.py
 
-The source of the list is two files of request lines and the oracle's answers to them: examples/replay.txt and
-examples/replay.answers, and examples/filters.txt and examples/filters.answers. tools/replay-list makes them; this
-converts them and asks nothing. Comments, blank lines and lines that the oracle answers with `error` are left out: those
-are no requests of the library.
+The source of the list is two files of request lines with the oracle's answers to them: examples/replay.txt and
+examples/replay.answers, and examples/filters.txt and examples/filters.answers. tools/replay-list asks the oracle; this
+only converts, so it gives the same list each time. Comments, blank lines and lines that the oracle answers with `error`
+are left out: those are no requests of the library.
 
 The list is a text of words, 16 hexadecimal digits each, parted by a space or a line's end. The first line is the number of
 requests. Each other line is a request: its kind's number, how many words it asks, how many its answer has, the words
-asked and the answer's words. A float's word is its bits, and any NaN's is 7FF8000000000000. An answer's words:
+asked and the answer's words. A float's word is its bits, and any NaN's is 7FF8000000000000.
+
+The words asked are those of the line; a window is its code, and a block's output length stands before its samples. The
+answer's words:
 
 - an elementary function: the number
 - a design or ready-made taps: the refusal number or 0, the answer's two counts, which are 0 of a refused one's blank record,
   and its numbers
 - a step: 0 (clear) or 1 (clouded) and the number; or 2 and the refusal number
-- a block, which asks how many samples, how long an output, and the samples: the refusal number or 0, the count of Clouded, the places
+- a block: the refusal number or 0, the count of Clouded, and the output's places
 - a reset: the refusal number or 0
 """
 import re
