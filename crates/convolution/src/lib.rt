@@ -83,7 +83,7 @@ fn wide(
     j
 }
 
-// The outputs from the j-th on, one by one.
+// The m outputs from the sample at `at` on, one by one.
 fn narrow(taps: &[f64], n: usize, x: &[f64], at: usize, output: &mut [f64], to: usize, m: usize)
     requires { ⌜ (n ≤ at + 1) × (n ≤ length (now taps)) × (at + m ≤ length (now x)) × (to + m ≤ length (now output)) ⌝ }
     ensures { λ _. ⌜ now (output .exit) ≡ placed (now (output .entry)) to (sumsFrom binary64 (now (taps .entry)) n (now (x .entry)) at m) ⌝ }

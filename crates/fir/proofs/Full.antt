@@ -115,11 +115,6 @@ module _ (capacity : ℕ) (f : Format) (ts : List Float) (n : ℕ) where
   abbrev pub filled : List Float → TapsRecord → TapsRecord
   filled L r = record { taps = r .taps; samples = take n L ++ drop n (r .samples); size = r .size; held = r .held; window = r .window }
 
-  agree : (m : ℕ) (l a b : List Float) → take m a ≡ take m b → take m (l ++ a) ≡ take m (l ++ b)
-  agree zero l a b e = refl
-  agree (suc m) [] a b e = e
-  agree (suc m) (x ∷ l) a b e = ap (λ (t : List Float). x ∷ t) (agree m l a b (sym (take-take m (suc m) a (omega arith)) ∙ ap (take m) e ∙ take-take m (suc m) b (omega arith)))
-
   filled-next : (Z : List Float) {L : List Float} {r : TapsRecord} (x : Float) → Full L r → filled Z (next r x) ≡ filled Z r
   unfolding next pushed
   filled-next Z {L} {r} x p =

@@ -4,8 +4,6 @@ use mathlib.Core.Bool.{_||_}
 use lib.Ieee.{Float}
 use Rattle.cascade.specs.Cascade.{CascadeRecord, flagged, clouding, mark, next}
 use Rattle.cascade.specs.View.{cascadeView}
-use mathlib.Core.Path.{_∙_, ap₂}
-use lib.Ieee.{Float}
 use borrow.Author.Needs.{needs}
 use Rattle.cascade.proofs.Cascade.pass.Statement.{statement}
 use Rattle.cascade.proofs.Cascade.pass.Tie as tie
