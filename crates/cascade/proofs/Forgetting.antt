@@ -7,12 +7,12 @@ use native.Mathlib.Omega.{arith}
 use lib.Ieee.{Float, Format}
 use lib.Ieee.Scale.{finite}
 use Rattle.runs.specs.Runs.{plusZero, marked, notAllFinite, Fresh, answer, reset}
-use Rattle.runs.specs.Forgetting.{Call, plainAnswer}
+use Rattle.runs.specs.Forgetting.{Call}
 use Rattle.runs.proofs.Laws.{reset-fresh}
 use Rattle.runs.proofs.Forgetting as runs
 use Rattle.runs.proofs.Forgetting.{Simulates}
 use Rattle.sections.specs.Section.{Biquad, clearedBiquad, sectionOut, sectionNext}
-use Rattle.sections.specs.FirstOrder.{FirstPart, clearedFirst, firstOut, firstNext}
+use Rattle.sections.specs.FirstOrder.{FirstPart, firstOut, firstNext}
 use Rattle.cascade.specs.Cascade.{CascadeRecord, checkCascade, clearedCascade, clouding, sectionsOut, sectionsNext, entered, value, moved, mark, next, cascade}
 use Rattle.cascade.specs.Plain.{SectionCoefficients, Coefficients, sectionCoefficients, firstCoefficients, coefficientsOf, newSection, newPart, last, passFirst, passSection, passSections, passAll, plainValue, plainCascade, CascadeForgets}
 use Rattle.cascade.proofs.Laws.{check-next}

@@ -1,6 +1,6 @@
 -- 01 "Cascade" and its part of "Run answer": the check, the number answered to a sample, the mark, and the record after it. Definitions only.
 use Prim.Native.Nat.{ℕ, zero, suc}
-use mathlib.Core.Bool.{Bool, true, false, not, _&&_, _||_, cond}
+use mathlib.Core.Bool.{Bool, false, not, _&&_, _||_, cond}
 use mathlib.Core.List.{List, [], _∷_, map}
 use lib.Dec.{leb, ltb}
 use lib.Ieee.{Float, Format}

@@ -1,7 +1,7 @@
 -- Sums side by side: the loop that adds one tap's products to all of them, and the loop over the taps. Assumes nothing.
 use mathlib.Core.Path.{_≡_, refl, sym, ap, ap₂, _∙_}
 use mathlib.Core.Bool.{Bool, true, false, and-false}
-use mathlib.Core.List.{List, [], _∷_, _++_, append-assoc, append-nil}
+use mathlib.Core.List.{List, [], _∷_, _++_, append-assoc}
 use Prim.Native.Nat.{ℕ, zero, suc, _+_, _-_, _<_, _≤_}
 use native.Mathlib.Nat.{zero-add, suc-add, add-zero, add-suc}
 use native.Mathlib.Numerals.{add-one}
@@ -11,7 +11,6 @@ use borrow.Author.Tests.{le-leb, lt-leb, leb-true, leb-false}
 use lib.ListN.{length, getD, set, take, drop, length-set, take-append-drop, drop-of-length-le, length-append, length-take, length-drop}
 use lib.Seq.{drop-cons, take-suc-set, drop-set-lt, drop-drop, take-at, drop-at, set-split}
 use lib.Ieee.{Float, nan, Format, add, mul}
-use Rattle.runs.specs.Runs.{plusZero}
 use Rattle.convolution.specs.Convolution.{sumAt, sumsFrom, scaled, placed, convolvable, convolved}
 
 module _ (f : Format) (sums₀ : List Float) (t : Float) (x : List Float) (k : ℕ) where

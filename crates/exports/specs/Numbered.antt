@@ -1,7 +1,6 @@
 -- The elementary functions by number. Definitions only.
 use Prim.Native.Nat.{ℕ}
 use mathlib.Core.Bool.{cond}
-use mathlib.Core.List.{List, [], _∷_}
 use lib.Dec.{eqb}
 use lib.Ieee.{Float, binary64, nan}
 use Rattle.ieee.specs.Sqrt.{sqrtOf}

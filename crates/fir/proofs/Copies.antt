@@ -1,7 +1,7 @@
 -- The loops of a long block: samples copied backward, the run of finite ones, and the count. Assumes nothing.
 use mathlib.Core.Path.{_≡_, refl, sym, ap, _∙_, subst}
 use mathlib.Core.Bool.{Bool, true, false, cond}
-use mathlib.Core.List.{List, [], _∷_, _++_, append-assoc}
+use mathlib.Core.List.{List, _++_, append-assoc}
 use Prim.Native.Nat.{ℕ, zero, suc, _+_, _-_, _<_, _≤_, min}
 use native.Mathlib.Nat.{zero-add, add-zero, sub-zero}
 use native.Mathlib.Numerals.{add-one}

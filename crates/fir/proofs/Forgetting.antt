@@ -1,9 +1,9 @@
 -- The forgetting rule of a tap record, at every format and capacity: once a sample more is taken than was known to be held, or as many as there are taps, the
 -- record holds just the samples that the plain filter uses. Assumes nothing.
-use Prim.Native.Nat.{ℕ, zero, suc, _+_, _≤_, min}
+use Prim.Native.Nat.{ℕ, zero, suc, _≤_, min}
 use mathlib.Core.Path.{_≡_, refl, ap, ap₂, sym, _∙_}
 use mathlib.Core.Bool.{Bool, true, false, _||_, false≢true}
-use mathlib.Core.List.{List, [], _∷_, _++_}
+use mathlib.Core.List.{List, [], _∷_}
 use native.Mathlib.Omega.{arith}
 use native.Mathlib.Numerals.{unary-clauses}
 use native.Mathlib.Nat.{min-zero}
@@ -12,13 +12,13 @@ use lib.ListN.{length, take, drop, length-take, length-replicate, length-append,
 use lib.Seq.{take-append-le, take-take, take-nil, length-take-le}
 use lib.Ieee.{Float, Format, add, mul}
 use borrow.Author.Tests.{leb-true}
-use Rattle.runs.specs.Runs.{plusZero, marked, notAllFinite, Fresh}
+use Rattle.runs.specs.Runs.{plusZero, marked, notAllFinite}
 use Rattle.runs.specs.Forgetting.{Call}
 use Rattle.runs.proofs.Forgetting as runs
 use Rattle.runs.proofs.Forgetting.{Simulates}
 use Rattle.fir.specs.Fir.{TapsRecord, pushed, next, heldOf, clouding, sum, value, mark, checkTaps, clearedTaps, fir}
 use Rattle.fir.specs.Plain.{tapsOf, used, plainFir, FirForgets}
-use Rattle.fir.proofs.Laws.{Sizes, sizes, check-next, check-cleared, sum-none}
+use Rattle.fir.proofs.Laws.{sizes, check-next, check-cleared, sum-none}
 
 -- ---- lists
 

@@ -2,23 +2,22 @@
 -- them. Assumes nothing.
 use mathlib.Core.Path.{_≡_, refl, sym, ap, ap₂, _∙_, subst}
 use mathlib.Core.Bool.{Bool, true, false, not, _||_, cond}
-use mathlib.Core.List.{List, [], _∷_, _++_, reverseAux, reverse, append-assoc}
+use mathlib.Core.List.{List, [], _∷_, _++_, reverseAux, reverse}
 use Prim.Native.Nat.{ℕ, zero, suc, _+_, _-_, _<_, _≤_, min}
-use native.Mathlib.Nat.{add-zero, add-suc, suc-sub-suc, sub-zero}
-use native.Mathlib.Numerals.{add-one, unary-clauses}
+use native.Mathlib.Nat.{add-zero, suc-sub-suc, sub-zero}
 use native.Mathlib.Omega.{arith}
 use lib.Dec.{ltb}
 use lib.ListN.{length, getD, take, drop, take-append-drop}
-use lib.Seq.{take-take, take-append-le, take-at, drop-at, length-take-le}
+use lib.Seq.{take-take, drop-at, length-take-le}
 use lib.Ieee.{Float, nan, Format, add, mul}
 use lib.Ieee.Scale.{finite}
 use borrow.Author.Tests.{le-ltb, lt-ltb, ltb-true, ltb-false}
-use Rattle.runs.specs.Runs.{Answer, plusZero, notAllFinite, marked, cloudedIn, written, placed as placedIn, isClouded, Filter, answer, answers, after}
+use Rattle.runs.specs.Runs.{Answer, plusZero, notAllFinite, marked, cloudedIn, written, placed as placedIn, isClouded, answer, answers, after}
 use Rattle.runs.proofs.Laws.{answers-cons, after-cons}
 use Rattle.convolution.specs.Convolution.{sumAt, sumsFrom}
 use Rattle.fir.specs.Fir.{TapsRecord, pushed, next, heldOf, clouding, sum, value, mark, checkTaps, fir}
 use Rattle.fir.specs.Blocks.{backFrom, finiteRun, ageAfter, cloudsFrom}
-use Rattle.fir.proofs.Laws.{Sizes, sizes, check-next, sum-none}
+use Rattle.fir.proofs.Laws.{sizes, check-next, sum-none}
 use Rattle.fir.proofs.Forgetting.{take-pushed, length-pushed}
 
 -- ---- a history, newest first, at place k of a list that stands oldest first

@@ -1,22 +1,22 @@
 -- A long block from a full record: what its parts make together is what single steps make. Assumes nothing.
-use mathlib.Core.Path.{_≡_, refl, sym, ap, ap₂, _∙_}
+use mathlib.Core.Path.{_≡_, refl, sym, ap, _∙_}
 use mathlib.Core.Bool.{Bool, true, false, cond}
 use mathlib.Core.List.{List, [], _∷_, _++_, reverseAux}
-use Prim.Native.Nat.{ℕ, zero, suc, _+_, _-_, _<_, _≤_, min}
+use Prim.Native.Nat.{ℕ, zero, suc, _+_, _-_, _≤_, min}
 use native.Mathlib.Nat.{add-zero}
 use native.Mathlib.Omega.{arith}
 use lib.Dec.{ltb, leb}
 use lib.ListN.{length, take, drop, length-take, length-drop, take-append-drop, drop-of-length-le}
 use lib.Seq.{drop-drop}
 use lib.Ieee.{Float, Format}
-use borrow.Author.Tests.{lt-ltb, le-ltb, le-leb, ltb-true, ltb-false}
+use borrow.Author.Tests.{le-leb, ltb-true, ltb-false}
 use Rattle.runs.specs.Runs.{Answer, Block, cloudedIn, written, answers, after, block}
 use Rattle.runs.proofs.Laws.{front-is, check-after, written-length}
 use Rattle.convolution.specs.Convolution.{sumsFrom, placed, convolvable, convolved}
 use Rattle.convolution.proofs.Sums.{length-sums, placed-more, placed-length}
 use Rattle.fir.specs.Fir.{TapsRecord, checkTaps, fir}
 use Rattle.fir.specs.Blocks.{backFrom, finiteRun, cloudsFrom, newestOf}
-use Rattle.fir.proofs.Laws.{Sizes, sizes, check-next}
+use Rattle.fir.proofs.Laws.{sizes, check-next}
 use Rattle.fir.proofs.Full.{Full, values, told, answers-full, after-full, written-told, count-told, held-after}
 use Rattle.fir.proofs.Window.{newest-of-few, newest-of-many, second-stretch, both-stretches}
 

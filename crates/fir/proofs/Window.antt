@@ -1,9 +1,8 @@
 -- A long block from a full record: what the window holds, the two stretches of outputs, and the newest samples. Assumes nothing.
 use mathlib.Core.Path.{_≡_, refl, sym, ap, ap₂, _∙_, subst}
-use mathlib.Core.Bool.{Bool, true, false}
-use mathlib.Core.List.{List, [], _∷_, _++_, reverseAux, append-assoc, append-nil}
-use Prim.Native.Nat.{ℕ, zero, suc, _+_, _-_, _<_, _≤_, min}
-use native.Mathlib.Nat.{add-zero, sub-zero}
+use mathlib.Core.List.{List, [], _∷_, _++_, reverseAux, append-assoc}
+use Prim.Native.Nat.{ℕ, zero, suc, _+_, _-_, _<_, _≤_}
+use native.Mathlib.Nat.{sub-zero}
 use native.Mathlib.Omega.{arith}
 use lib.ListN.{length, getD, take, drop, length-take, length-drop, length-append, take-append-drop, List·getD-append}
 use lib.Seq.{take-all, getD-take, getD-drop, getD-append-add, length-take-le, take-at}

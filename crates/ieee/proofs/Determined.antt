@@ -1,6 +1,6 @@
 -- `Sum`, `Difference`, `Product` and `Quotient` of `specs/Arithmetic.antt` each determine their result. Assumes nothing.
 use mathlib.Core.Path.{_≡_, sym, _∙_}
-use mathlib.Core.Logic.{_⊎_, inl, inr}
+use mathlib.Core.Logic.{inl, inr}
 use mathlib.Core.Bool.{Bool, true, false, _&&_}
 use Prim.Native.Nat.{ℕ, zero, suc, _+_, _-_, _*_, _<_}
 use native.Mathlib.Nat.{eq-or-lt-of-le, mul-pos, zero-lt-suc}

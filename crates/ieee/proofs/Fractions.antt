@@ -9,14 +9,14 @@ use native.Mathlib.Omega.{arith}
 use lib.Dec.{T, isLe, isEq, ltb, eqb, leb→le, nleb→lt, eqb→eq, eqb-refl, ltb→lt, nltb→le}
 use lib.Arith.{lt-of-le-ne}
 use lib.Pow.{pow-add, pow-pos, pow-mono, pow-lt}
-use lib.Ieee.{Float, nan, inf, fin, Format, prec, emax, low, size, nearest, odd, units, round, fits}
-use lib.Ieee.Digits.{size-lt, size-reaches}
+use lib.Ieee.{Float, inf, Format, prec, emax, low, size, nearest, odd, units, round, fits}
+use lib.Ieee.Digits.{size-reaches}
 use lib.Ieee.Fits.{two, reach, two-le-pos, nearest-le, kept-lt, odd-fits, inf-fits, round-is}
 use lib.Ieee.Exact.{odd-sign}
 use lib.Ieee.Nearest.{closest, nearest-ge}
 use lib.Ieee.Order.{drop, kept}
 use lib.Ieee.Positive.{through}
-use Rattle.ieee.specs.Nearest.{Real, fraction, num, den, HasSign, Even, Nearest}
+use Rattle.ieee.specs.Nearest.{fraction, num, den, Even, Nearest}
 use Rattle.ieee.proofs.Grid.{Lawful, Close, Leading, overflow, signed, counted, nearest-of, or-lt}
 
 pub fraction-lawful : (p q : ℕ) → Lawful (fraction p q)

@@ -1,7 +1,7 @@
 -- Half the exponent: the record that `root_of_digits` hands on, from what `nearest_root` ensures. And a step of the loop that brings a subnormal's digits up. Assumes nothing.
-use mathlib.Core.Path.{_≡_, refl, sym, ap, _∙_, subst}
+use mathlib.Core.Path.{_≡_, sym, ap, _∙_}
 use Prim.Native.Nat.{ℕ, zero, suc, _+_, _-_, _*_, _/_, _%_, _^_, _≤_, _<_}
-use native.Mathlib.Nat.{mul-mul-mul-comm, mul-assoc, pow-succ', mul-one}
+use native.Mathlib.Nat.{mul-assoc, pow-succ', mul-one}
 use native.Mathlib.Omega.{arith}
 use lib.Pow.{pow-add}
 use Rattle.ieee.specs.Digits.{NearestRoot, Rooted}

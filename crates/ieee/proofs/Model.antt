@@ -1,16 +1,16 @@
 -- `sqrtOf` is the square root, for every format and every x (`sqrtOf-correct`). Assumes nothing.
-use mathlib.Core.Path.{_≡_, refl, sym, ap, _∙_, subst}
+use mathlib.Core.Path.{_≡_, refl, sym, subst}
 use mathlib.Core.Bool.{Bool, true, false, not, cond}
-use Prim.Native.Nat.{ℕ, zero, suc, _+_, _-_, _*_, _/_, _%_, _^_, _≤_, _<_}
-use native.Mathlib.Nat.{le-refl, le-trans, le-of-eq, le-of-lt, lt-of-lt-of-le, lt-of-le-of-lt, lt-of-not-le, lt-irrefl, not-le-of-lt, mul-assoc, mul-comm, mul-pos, mul-le-mul, mul-le-mul-right, le-of-mul-le-mul-right, mul-mul-mul-comm, zero-lt-suc, pow-suc, pow-succ', pow-le-pow-left, div-lt-iff-lt-mul}
+use Prim.Native.Nat.{ℕ, zero, suc, _+_, _-_, _*_, _/_, _^_, _≤_, _<_}
+use native.Mathlib.Nat.{le-trans, le-of-eq, le-of-lt, lt-of-lt-of-le, lt-of-le-of-lt, lt-of-not-le, not-le-of-lt, mul-pos, mul-le-mul, mul-le-mul-right, le-of-mul-le-mul-right, zero-lt-suc, pow-suc, pow-succ', pow-le-pow-left, div-lt-iff-lt-mul}
 use native.Mathlib.Omega.{arith}
 use lib.Dec.{T, ltb, eqb, ltb→lt, nltb→le, eqb→eq, lit≤}
 use lib.Pow.{pow-pos}
 use lib.Arith.{lt-of-le-ne}
-use lib.Ieee.{Float, nan, inf, fin, binary64, Format, low, up, down, size, round, fits}
+use lib.Ieee.{Float, nan, inf, fin, Format, low, up, down, size, round}
 use lib.Ieee.Digits.{size-lt}
 use lib.Ieee.Fits.{down-pos, eq→eqb}
-use Rattle.ieee.specs.Nearest.{Real, fraction, root, num, den, HasSign, Smaller, midNum, midDen, Nearest}
+use Rattle.ieee.specs.Nearest.{Real, fraction, root, num, den, midNum, midDen, Nearest}
 use Rattle.ieee.specs.Sqrt.{Sqrt, isqrt, withSticky, rootOf, sqrtOf}
 use Rattle.ieee.proofs.Grid.{OnGrid, on-grid, den-pos, Lawful, middle}
 use Rattle.ieee.proofs.Roots.{root-lawful}

@@ -1,19 +1,18 @@
 -- What is nearest is an infinity exactly from 2 ^ emax * (2 - 2 ^ -prec) on, as IEEE 754 (4.3.1) says (`overflows`, `overflows-back`), for every format and every real
 -- number. So counting an infinity as 2 ^ (emax + 1), as `num` does, is what the standard asks. Assumes nothing.
 use mathlib.Core.Path.{_≡_, refl, sym, ap, _∙_, subst}
-use mathlib.Core.Logic.{_⊎_, inl, inr}
+use mathlib.Core.Logic.{inl, inr}
 use mathlib.Core.Bool.{Bool}
 use Prim.Native.Nat.{ℕ, zero, suc, _+_, _-_, _*_, _^_, _≤_, _<_}
-use native.Mathlib.Nat.{le-refl, le-step, le-trans, le-of-eq, le-of-lt, le-antisymm, add-comm, add-mul, lt-of-lt-of-le, lt-of-le-of-lt, lt-irrefl, not-le-of-lt, eq-or-lt-of-le, mul-assoc, mul-comm, mul-one, mul-pos, mul-lt-mul-of-pos-right, eq-of-mul-eq-mul-right, pow-succ'}
+use native.Mathlib.Nat.{le-refl, le-step, le-trans, le-of-eq, le-of-lt, add-comm, add-mul, lt-of-lt-of-le, lt-irrefl, not-le-of-lt, eq-or-lt-of-le, mul-assoc, mul-comm, mul-pos, mul-lt-mul-of-pos-right, eq-of-mul-eq-mul-right, pow-succ'}
 use native.Mathlib.Omega.{arith}
-use lib.IntN.{ℤ}
 use lib.Dec.{T}
-use lib.Pow.{pow-add, pow-pos, pow-mono, pow-lt}
+use lib.Pow.{pow-add, pow-pos, pow-mono}
 use lib.Ieee.{Float, nan, inf, fin, Format, prec, emax, low, up, down, odd, fits}
 use lib.Ieee.Exact.{odd-sign}
-use lib.Ieee.Fits.{two, two-le-pos, odd-fits, inf-fits, down-pos}
-use Rattle.ieee.specs.Nearest.{Real, fraction, num, den, HasSign, Smaller, midNum, midDen, edgeNum, edgeDen, Even, Nearest}
-use Rattle.ieee.proofs.Grid.{OnGrid, on-grid, fits-below, den-pos, overflow, Leading, Lawful, next-up, or-lt, order, middle, signed, counted}
+use lib.Ieee.Fits.{two, two-le-pos, odd-fits, inf-fits}
+use Rattle.ieee.specs.Nearest.{Real, fraction, num, den, Smaller, midNum, midDen, edgeNum, edgeDen, Even, Nearest}
+use Rattle.ieee.proofs.Grid.{on-grid, fits-below, den-pos, overflow, Lawful, next-up, or-lt, order, middle, signed, counted}
 use Rattle.ieee.proofs.Fractions.{fraction-lawful, spare, spare-is, inf-value}
 use Rattle.ieee.proofs.Unique.{Cut, fraction-cut, back-order, not-next}
 

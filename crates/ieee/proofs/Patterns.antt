@@ -1,16 +1,16 @@
 -- The bit patterns of the values of binary64 that are finite and not negative, and what `sqrt`'s steps say of them. Assumes nothing.
 use mathlib.Core.Path.{_≡_, refl, sym, ap, _∙_, subst}
-use mathlib.Core.Logic.{_⊎_, inl, inr}
+use mathlib.Core.Logic.{inr}
 use Prim.Native.Nat.{ℕ, zero, suc, _+_, _-_, _*_, _/_, _%_, _^_, _≤_, _<_}
-use native.Mathlib.Nat.{not-le-of-lt, le-of-lt, le-of-eq, le-trans, mod-eq-of-lt, mul-assoc, mul-one, mul-pos, lt-irrefl, zero-lt-suc}
+use native.Mathlib.Nat.{le-of-lt, le-of-eq, le-trans, mod-eq-of-lt, mul-assoc, mul-one, mul-pos, zero-lt-suc}
 use lib.Pow.{pow-add, pow-pos}
 use native.Mathlib.Omega.{arith}
 use mathlib.Core.Bool.{Bool, true, false, not, cond, true≢false}
 use lib.IntN.{pos}
-use lib.Dec.{T, leb, ltb, eqb, leb→le, eqb→eq, not-T, T-not, lt→ltb, ltb→lt, nltb→le, nleb→lt}
+use lib.Dec.{T, leb, ltb, eqb, eqb→eq, not-T, T-not, lt→ltb, ltb→lt, nltb→le, nleb→lt}
 use lib.Arith.{lt→nleb, le→nltb}
-use lib.Ieee.{Float, nan, inf, fin, binary64, up, down, odd, ofFields, ofBits, toBits, fits, lt, ne, isNan, nanBits}
-use lib.Ieee.Bits.{is-false, cond-no, ofBits-fits, ofBits-toBits, nanBits-is, nanBits-above}
+use lib.Ieee.{Float, nan, inf, fin, binary64, up, down, odd, ofFields, ofBits, fits, lt, ne, isNan, nanBits}
+use lib.Ieee.Bits.{is-false, cond-no, ofBits-fits, nanBits-is, nanBits-above}
 use lib.Ieee.Compare.{differs-from-itself, nan-differs}
 use lib.Ieee.Exact.{HasValue, odd-sign}
 use borrow.Author.Tests.{lt-ltb}

@@ -1,24 +1,24 @@
 -- At most one value is nearest (`nearest-unique`), so `Sqrt` determines the root (`sqrt-unique`). Assumes nothing.
 use mathlib.Core.Path.{_≡_, refl, sym, ap, _∙_, subst}
-use mathlib.Core.Logic.{_⊎_, inl, inr}
-use mathlib.Core.Bool.{Bool, true, false, not, _&&_, cond}
-use Prim.Native.Nat.{ℕ, zero, suc, _+_, _-_, _*_, _/_, _%_, _^_, _≤_, _<_}
-use native.Mathlib.Nat.{le-refl, le-trans, le-of-eq, le-of-lt, lt-of-lt-of-le, lt-of-le-of-lt, lt-irrefl, not-le-of-lt, eq-or-lt-of-le, add-comm, mul-assoc, mul-comm, mul-one, zero-mul, mul-pos, mul-le-mul-right, mul-le-mul-left, mul-lt-mul-of-pos-right, lt-of-mul-lt-mul-right, le-of-mul-le-mul-right, eq-of-mul-eq-mul-right, mul-div-cancel, mul-mul-mul-comm, mul-le-mul, pow-succ'}
+use mathlib.Core.Logic.{inl, inr}
+use mathlib.Core.Bool.{Bool, true, false, not, cond}
+use Prim.Native.Nat.{ℕ, zero, suc, _+_, _-_, _*_, _/_, _^_, _≤_, _<_}
+use native.Mathlib.Nat.{le-refl, le-trans, le-of-eq, le-of-lt, lt-of-lt-of-le, lt-of-le-of-lt, not-le-of-lt, eq-or-lt-of-le, add-comm, mul-assoc, mul-comm, mul-pos, mul-le-mul-left, mul-lt-mul-of-pos-right, lt-of-mul-lt-mul-right, eq-of-mul-eq-mul-right, mul-div-cancel, mul-mul-mul-comm, mul-le-mul, pow-succ'}
 use native.Mathlib.Omega.{arith}
 use lib.IntN.{ℤ}
-use lib.Dec.{T, leb, ltb, eqb, ltb→lt}
-use lib.Pow.{pow-add, pow-pos, pow-mono, pow-lt}
+use lib.Dec.{T}
+use lib.Pow.{pow-add, pow-pos, pow-lt}
 use lib.Ieee.{Float, nan, inf, fin, Format, prec, emax, low, up, down, size, hid, top, odd, round, fits, ofBits, toBits}
 use lib.Ieee.Digits.{back}
 use lib.Ieee.Bits.{ofBits-toBits}
 use lib.Ieee.Exact.{odd-sign}
-use lib.Ieee.Fits.{two, two-le-pos, odd-fits, down-pos, and-r}
+use lib.Ieee.Fits.{two, two-le-pos, odd-fits, down-pos}
 use lib.Ieee.Positive.{through}
 use Rattle.ieee.specs.Nearest.{Real, fraction, root, num, den, HasSign, Smaller, midNum, midDen, Even, Nearest}
 use Rattle.ieee.specs.Sqrt.{Sqrt}
 use Rattle.ieee.proofs.Fractions.{round-nearest}
 use Rattle.ieee.proofs.Roots.{sq-lt}
-use Rattle.ieee.proofs.Grid.{OnGrid, on-grid, fits-below, den-pos, overflow, Leading, next-up, or-lt, order, middle, signed, counted}
+use Rattle.ieee.proofs.Grid.{on-grid, fits-below, den-pos, overflow, Leading, next-up, or-lt, order, middle, signed, counted}
 
 -- ---- what else any real number satisfies: no fraction above it is below one under it
 abbrev pub Cut : Real → Type 0

@@ -1,6 +1,6 @@
 -- What digits write: the loops over them, and how large it can be. Assumes nothing.
 use mathlib.Core.Path.{_≡_, refl, sym, ap, _∙_}
-use mathlib.Core.Bool.{Bool, true, false, _&&_, _||_, cond, and-false, false≢true}
+use mathlib.Core.Bool.{Bool, true, false, _&&_, cond, and-false, false≢true}
 use mathlib.Core.List.{List, [], _∷_, _++_}
 use Prim.Native.Nat.{ℕ, zero, suc, _+_, _-_, _*_, _^_, _<_, _≤_, min}
 use native.Mathlib.Nat.{zero-add, le-trans, le-of-eq, add-comm, add-mul, mul-suc, mul-le-mul-right, mul-assoc, le-mul-of-pos-right, one-le-pow, pow-succ'}

@@ -1,7 +1,7 @@
 -- The forgetting rule, once for any filter and its plain filter, from laws of one sample and of a reset. Assumes nothing.
-use mathlib.Core.Path.{_≡_, refl, sym, ap, ap₂, _∙_, subst}
+use mathlib.Core.Path.{_≡_, refl, sym, ap, ap₂, _∙_}
 use mathlib.Core.Bool.{Bool, true, false, _&&_, _||_, cond, true≢false, or-false, or-true}
-use mathlib.Core.List.{List, [], _∷_, _++_, map, reverseAux, reverseAux-eq}
+use mathlib.Core.List.{List, [], _∷_, map, reverseAux, reverseAux-eq}
 use mathlib.Core.Option.{Option}
 use Prim.Native.Nat.{ℕ, suc}
 use lib.ListN.{length}
@@ -9,7 +9,7 @@ use lib.Ieee.{Float}
 use Rattle.runs.specs.Refusals.{Accepted, ShortOutput}
 use Rattle.runs.specs.Runs as Runs
 use Rattle.runs.specs.Runs.{Answer, marked, cloudedIn, placed, written, Filter, Fresh, refusedBlock, answer, answers, after}
-use Rattle.runs.specs.Forgetting.{Call, step, block, reset, Outcome, stepped, blocked, wasReset, outcome, left, run, Plain, isShort, keptAfter, plainAnswer, plainAnswers, plainOutcome, plainRun, answered, isReset, dues, all, shown, places, refusalOf, Seen, ofStep, ofBlock, seenOf, seen, refusedBy, Forgets}
+use Rattle.runs.specs.Forgetting.{Call, step, block, reset, Outcome, stepped, blocked, wasReset, outcome, left, run, Plain, isShort, keptAfter, plainAnswer, plainAnswers, plainOutcome, plainRun, answered, isReset, dues, all, shown, places, refusalOf, ofStep, ofBlock, seenOf, seen, refusedBy, Forgets}
 use Rattle.runs.proofs.Laws.{step-is}
 
 -- What has to be shown of a filter F and the plain filter P that is fed `fed`. `Beside since kept s`: the record s is what the kept samples made of the

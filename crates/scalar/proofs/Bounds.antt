@@ -4,7 +4,7 @@ use mathlib.Core.Bool.{Bool, true, false, cond, _&&_, _||_, true≢false}
 use Prim.Native.Nat.{ℕ, zero, suc, _+_, _-_, _*_, _/_, _^_, _≤_, _<_, zero-le}
 use native.Mathlib.Nat.{le-trans, le-of-eq, le-of-lt, le-of-suc-le-suc, mul-one, mul-right-comm, mul-pos, mul-le-mul, mul-le-mul-right, mul-mul-mul-comm, le-of-mul-le-mul-right}
 use native.Mathlib.Omega.{arith}
-use lib.IntN.{ℤ, pos, negsuc, negℤ}
+use lib.IntN.{ℤ, pos, negℤ}
 use lib.Dec.{T, ltb, eqb, ltb→lt, eqb→eq, lit≤, lit<}
 use lib.Pow.{pow-pos}
 use lib.Ieee as Ieee

@@ -1,24 +1,24 @@
 -- A finite float above zero as m * 2 ^ e with 1 ≤ m < 2. Assumes nothing.
 use mathlib.Core.Path.{_≡_, refl, sym, ap, _∙_, subst, subst⁻¹}
-use mathlib.Core.Bool.{Bool, true, false, not, cond, _&&_, true≢false}
-use Prim.Native.Nat.{ℕ, zero, suc, _+_, _-_, _*_, _/_, _%_, _^_, _≤_, _<_, zero-le, suc-le-suc}
-use native.Mathlib.Nat.{le-trans, le-of-eq, le-of-lt, le-antisymm, lt-of-lt-of-le, lt-of-le-of-lt, lt-irrefl, lt-of-not-le, not-le-of-lt, le-of-suc-le-suc, mul-one, one-mul, mul-comm, mul-assoc, mul-right-comm, mul-pos, mul-le-mul-right, mul-le-mul-left, mul-lt-mul-of-pos-right, eq-of-mul-eq-mul-right, add-comm, zero-mul, zero-lt-suc, mod-eq-of-lt, mod-lt, pow-succ'}
+use mathlib.Core.Bool.{true, false, not, _&&_, true≢false}
+use Prim.Native.Nat.{ℕ, zero, suc, _+_, _-_, _*_, _/_, _%_, _^_, _≤_, _<_, suc-le-suc}
+use native.Mathlib.Nat.{le-trans, le-of-eq, le-of-lt, le-antisymm, lt-of-lt-of-le, lt-of-le-of-lt, lt-irrefl, lt-of-not-le, not-le-of-lt, le-of-suc-le-suc, mul-one, one-mul, mul-assoc, mul-right-comm, mul-pos, mul-le-mul-right, mul-le-mul-left, mul-lt-mul-of-pos-right, eq-of-mul-eq-mul-right, add-comm, zero-mul, zero-lt-suc, mod-eq-of-lt, mod-lt, pow-succ'}
 use native.Mathlib.Omega.{arith}
 use lib.IntN.{ℤ, pos, negsuc, _+ℤ_}
-use lib.Dec.{T, leb, ltb, eqb, ltb→lt, lt→ltb, le→leb, lit≤, lit<}
+use lib.Dec.{T, leb, ltb, eqb, ltb→lt, lt→ltb, le→leb, lit≤}
 use lib.Pow.{pow-add, pow-pos, pow-mono, shl-lt}
 use lib.Ieee.{Float, nan, inf, fin, binary64, up, down, size, odd, minus, fits, ofBits, toBits}
-use lib.Ieee.Fits.{and-l, and-r, and-i, down-pos, up-pos, odd-fits}
+use lib.Ieee.Fits.{and-l, and-r, and-i, down-pos, odd-fits}
 use lib.Ieee.Exact.{HasValue, odd-sign}
 use lib.Ieee.Digits.{minus-val, size-lt, size-le, size-reaches}
-use lib.Ieee.Positive.{positive, num, den}
+use lib.Ieee.Positive.{positive}
 use lib.Ieee.Bits.{ofBits-toBits}
 use Rattle.ieee.proofs.Grid.{fits-digits, or-lt}
 use Rattle.ieee.proofs.Patterns.{normal, subnormal, Above, beyond}
-use mathlib.Core.Logic.{_⊎_, inl, inr}
+use mathlib.Core.Logic.{inl, inr}
 use Rattle.scalar.specs.Logarithm.{partsOf, Splits}
 use Rattle.scalar.specs.declared.logarithm.Parts.{Parts}
-use Rattle.scalar.proofs.Values.{unique, rescale, minus-same, minus-pos, minus-neg, minus-zero, sum-is}
+use Rattle.scalar.proofs.Values.{unique, rescale, minus-same, minus-pos, minus-zero, sum-is}
 
 -- ---- how many digits
 size-is : (x n : ℕ) → 2 ^ n ≤ x → x < 2 ^ suc n → size x ≡ suc n

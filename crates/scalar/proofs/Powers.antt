@@ -1,12 +1,12 @@
 -- Powers of two by their bit patterns. Assumes nothing.
 use mathlib.Core.Path.{_≡_, refl, sym, ap, _∙_, subst}
 use mathlib.Core.Bool.{false}
-use Prim.Native.Nat.{ℕ, zero, suc, _+_, _-_, _*_, _/_, _%_, _^_, _≤_, _<_}
+use Prim.Native.Nat.{ℕ, zero, suc, _+_, _-_, _*_, _/_, _^_, _≤_, _<_}
 use native.Mathlib.Nat.{add-comm, lt-irrefl, mul-mod-left, mul-div-cancel}
 use native.Mathlib.Omega.{arith}
 use lib.IntN.{ℤ, pos, negsuc}
 use lib.Dec.{lit<}
-use lib.Ieee.{Float, fin, binary64, minus, odd, ofBits}
+use lib.Ieee.{fin, binary64, minus, odd, ofBits}
 use lib.Signed.{mag}
 use Rattle.ieee.proofs.Patterns.{normal}
 use Rattle.scalar.specs.Exponential.{Scale, pow2}

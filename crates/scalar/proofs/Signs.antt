@@ -1,6 +1,6 @@
 -- What the tests of a float against 0 and itself say: the absolute value, the sign of the nearest whole number, and NaN. Assumes nothing.
 use mathlib.Core.Path.{_≡_, refl, sym, ap, _∙_, subst}
-use mathlib.Core.Bool.{Bool, true, false, not, Bool·beq, cond, _&&_, _||_, true≢false}
+use mathlib.Core.Bool.{Bool, true, false, not, Bool·beq, _&&_, _||_, true≢false}
 use Prim.Native.Nat.{ℕ, zero, suc, _+_, _*_, _^_, _≤_, _<_, zero-le}
 use native.Mathlib.Nat.{le-trans, le-of-eq, lt-of-lt-of-le, lt-irrefl, not-le-of-lt, mul-one, mul-pos, zero-mul, zero-lt-suc, le-add-right}
 use native.Mathlib.Omega.{arith}

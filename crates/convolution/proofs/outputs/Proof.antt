@@ -1,5 +1,4 @@
 -- `convolution::outputs` meets its contract. Assumes nothing.
-use native.Mathlib.Omega.{arith}
 use lib.Ieee.{binary64}
 use Rattle.convolution.proofs.Sums.{parts}
 use borrow.Author.Needs.{needs}

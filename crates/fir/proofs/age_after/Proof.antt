@@ -1,8 +1,6 @@
 use Rattle.fir.proofs.Copies.{age-none, age-more, age-most}
 -- `fir::age_after` meets its contract. Assumes nothing.
-use Prim.Native.Nat.{min, _+_}
 use mathlib.Core.Path.{sym, _∙_}
-use native.Mathlib.Omega.{arith}
 use borrow.Author.Tests.{not-true, not-false}
 use borrow.Author.Needs.{needs}
 use Rattle.fir.proofs.age_after.Statement.{statement}

@@ -2,11 +2,9 @@ use Rattle.fir.proofs.Copies.{on-turn, on-done}
 use borrow.Author.Needs.{needs}
 -- `fir::copy_on` meets its contract. Assumes nothing.
 use Prim.Native.Nat.{_-_}
-use mathlib.Core.Path.{sym, _∙_}
 use native.Mathlib.Omega.{arith}
-use lib.ListN.{length, take, drop, length-take, length-drop}
-use Rattle.convolution.proofs.Sums.{Putting, put-start, put-turn, put-done}
-use Rattle.fir.proofs.Copies.{part-length, part-at}
+use lib.ListN.{length, take, drop}
+use Rattle.convolution.proofs.Sums.{Putting, put-start}
 use Rattle.fir.proofs.copy_on.Statement.{statement}
 use Rattle.fir.proofs.copy_on.Tie as tie
 

@@ -2,7 +2,6 @@ use borrow.Author.Needs.{needs}
 -- `fir::count_clouded` meets its contract. Assumes nothing.
 use Prim.Native.Nat.{_-_}
 use mathlib.Core.Logic.{⊎-elim}
-use native.Mathlib.Omega.{arith}
 use borrow.Author.Tests.{lt-ltb, le-ltb}
 use lib.ListN.{length}
 use Rattle.fir.proofs.Copies.{Counting, count-start, count-turn, count-done}

@@ -1,5 +1,5 @@
 -- `fir::window_of` meets its contract. Assumes nothing.
-use mathlib.Core.Path.{sym, _∙_}
+use mathlib.Core.Path.{sym}
 use native.Mathlib.Omega.{arith}
 use Rattle.fir.proofs.Window.{window-is}
 use borrow.Author.Needs.{needs}

@@ -1,7 +1,7 @@
 -- `ieee::nearest_root` meets its contract. The loop's invariant: the weight w is a power of two, y * w is what is left of m * 2 ^ 52 with q * q taken off, and q + w is
 -- above the root. The measure is w. Assumes nothing.
 use mathlib.Core.Path.{_≡_, refl}
-use Prim.Native.Nat.{ℕ, suc, _+_, _-_, _*_, _/_, _^_, _≤_, _<_}
+use Prim.Native.Nat.{ℕ, _+_, _-_, _*_, _/_, _^_, _≤_, _<_}
 use native.Mathlib.Omega.{arith}
 use Rattle.ieee.proofs.Steps.{halved, taken, passed, ended, up-lo, up-hi, no-carry}
 use Rattle.ieee.proofs.nearest_root.Statement.{statement}

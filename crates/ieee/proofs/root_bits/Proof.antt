@@ -1,6 +1,6 @@
 -- `ieee::root_bits` meets its contract. The loop brings a subnormal's digits up to 53 and keeps m * 2 ^ e. The measure is e. Assumes nothing.
 use mathlib.Core.Path.{_≡_, refl, subst}
-use Prim.Native.Nat.{ℕ, suc, _+_, _-_, _*_, _/_, _^_, _≤_, _<_}
+use Prim.Native.Nat.{ℕ, _-_, _*_, _^_, _≤_, _<_}
 use native.Mathlib.Omega.{arith}
 use Rattle.ieee.specs.Digits.{Rooted}
 use Rattle.ieee.proofs.Halves.{some-left, one-up}

@@ -1,9 +1,9 @@
 -- `ieee::sqrt` meets its contract, by the facts of proofs/Patterns.antt, and `sqrt-unique` with `sqrtOf-correct` for the value. Assumes nothing.
-use mathlib.Core.Path.{_≡_, refl, sym, ap, subst}
+use mathlib.Core.Path.{_≡_, refl, sym, subst}
 use mathlib.Core.Bool.{Bool, not}
 use native.Mathlib.Omega.{arith}
 use lib.Dec.{T}
-use lib.Ieee.{Float, fin, binary64, fits, nanBits, ofBits, toBits, sub, lt}
+use lib.Ieee.{Float, fin, binary64, nanBits, ofBits, toBits, sub, lt}
 use lib.Ieee.Bits.{ofBits-toBits}
 use Rattle.ieee.specs.Sqrt.{Sqrt, sqrtOf}
 use Rattle.ieee.proofs.Unique.{sqrt-unique}

@@ -1,5 +1,5 @@
 -- `windows::windowed` meets its contract. Assumes nothing.
-use mathlib.Core.List.{List, _++_}
+use mathlib.Core.List.{_++_}
 use lib.ListN.{replicate}
 use Rattle.scalar.specs.Constants.{plusZero}
 use Prim.Native.Nat.{ℕ}

@@ -1,5 +1,5 @@
 -- `fir::TapRecord::block` meets its contract: a block of the first samples, one by one, and the rest behind it. Assumes nothing.
-use Prim.Native.Nat.{_+_, _-_, _≤_, min}
+use Prim.Native.Nat.{_-_, _≤_, min}
 use mathlib.Core.Path.{_≡_, sym, ap, _∙_}
 use mathlib.Core.Logic.{⊎-elim}
 use native.Mathlib.Omega.{arith}
@@ -13,7 +13,7 @@ use Rattle.runs.specs.Runs.{block}
 use Rattle.fir.specs.Fir.{checkTaps, fir}
 use mathlib.Core.Bool.{true}
 use Rattle.fir.specs.View.{capacity, tapsView}
-use Rattle.fir.proofs.Laws.{Sizes, sizes, check-next}
+use Rattle.fir.proofs.Laws.{sizes, check-next}
 use Rattle.fir.proofs.Long.{front-full}
 use borrow.Author.Needs.{needs}
 use Rattle.fir.proofs.TapRecord.block.Statement.{statement}

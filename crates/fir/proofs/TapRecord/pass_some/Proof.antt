@@ -1,12 +1,12 @@
 use borrow.Author.Needs.{needs}
 -- `fir::TapRecord::pass_some` meets its contract: a turn of its loop is a turn of `Running`. Assumes nothing.
-use Prim.Native.Nat.{_-_, _≤_, _<_}
+use Prim.Native.Nat.{_-_}
 use mathlib.Core.Logic.{⊎-elim}
-use mathlib.Core.Path.{_≡_, sym, ap, _∙_}
+use mathlib.Core.Path.{ap}
 use native.Mathlib.Omega.{arith}
 use lib.ListN.{length, take, getD}
 use lib.Seq.{length-take-le, getD-take}
-use lib.Ieee.{Float, binary64, nan}
+use lib.Ieee.{binary64, nan}
 use Rattle.runs.proofs.Laws.{Running, run-start, run-turn, run-done}
 use Rattle.fir.specs.Fir.{fir}
 use Rattle.fir.specs.View.{capacity, tapsView}

@@ -1,6 +1,5 @@
 use Rattle.protocol.proofs.Numbers.{result-small}
 use mathlib.Core.Logic.{⊎-elim}
-use Rattle.protocol.proofs.Numbers.{digit-small}
 -- `protocol::number::decimal_after` meets its contract. Assumes nothing.
 use Prim.Native.Nat.{_-_}
 use mathlib.Core.Path.{refl}

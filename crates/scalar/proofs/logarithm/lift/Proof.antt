@@ -1,6 +1,6 @@
 -- `scalar::logarithm::lift` meets its contract. The loop's invariant: q is t * 2 ^ j. The measure is what is left to 2 ^ 53. Assumes nothing.
 use mathlib.Core.Path.{_≡_}
-use Prim.Native.Nat.{ℕ, _*_, _-_, _^_, _<_, _≤_}
+use Prim.Native.Nat.{_*_, _-_, _^_, _<_, _≤_}
 use native.Mathlib.Omega.{arith}
 use Rattle.scalar.proofs.Digits.{start, doubled, few-turns}
 use Rattle.scalar.proofs.logarithm.lift.Statement.{statement}

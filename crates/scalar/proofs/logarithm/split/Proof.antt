@@ -1,6 +1,6 @@
 -- `scalar::logarithm::split` meets its contract: a subnormal's digits are lifted, and a normal number's have their leading one added. Assumes nothing.
-use mathlib.Core.Path.{_≡_, sym, _∙_, subst⁻¹}
-use Prim.Native.Nat.{ℕ, _<_, _+_, _/_, _^_}
+use mathlib.Core.Path.{sym, _∙_, subst⁻¹}
+use Prim.Native.Nat.{_<_, _+_, _/_, _^_}
 use native.Mathlib.Nat.{mod-lt, lt-trans, lt-of-le-of-lt}
 use native.Mathlib.Omega.{arith}
 use lib.IntN.{ℤ}
