@@ -5,8 +5,9 @@ use Rattle.runs.specs.Forgetting.{Call}
 use Rattle.cascade.specs.Plain.{CascadeForgets}
 use Rattle.cascade.specs.View.{cascadeView}
 use Rattle.cascade.specs.declared.Cascade.{Cascade}
-use Rattle.fir.specs.Plain.{FirForgets}
-use Rattle.fir.specs.View.{capacity, tapsView}
+use Rattle.taps.specs.Plain.{FirForgets}
+use Rattle.taps.specs.Lent.{capacity}
+use Rattle.fir.specs.View.{tapsView}
 use Rattle.fir.specs.declared.TapRecord.{TapRecord}
 
 -- every list of steps, blocks and resets that starts at this cascade

@@ -6,8 +6,9 @@ use lib.Ieee.{Float, binary64}
 use Rattle.runs.specs.Runs.{reset}
 use Rattle.cascade.specs.Cascade.{CascadeRecord, cascade}
 use Rattle.cascade.specs.View.{FreshCascade}
-use Rattle.fir.specs.Fir.{TapsRecord, fir, fromCoeffs}
-use Rattle.fir.specs.View.{capacity, FreshTaps}
+use Rattle.taps.specs.Fir.{TapsRecord, fir, fromCoeffs}
+use Rattle.taps.specs.Lent.{capacity}
+use Rattle.fir.specs.View.{FreshTaps}
 use Rattle.designs.specs.LowPass.{butterworthLp, butterworthHp, chebyshev1Lp, chebyshev2Lp}
 use Rattle.designs.specs.BandPass.{butterworthBp}
 use Rattle.windows.specs.Fir.{firLp}

@@ -10,8 +10,8 @@ use Rattle.runs.specs.Runs.{Answer, clear, clouded, refused, Block, step, block
 use Rattle.sections.specs.Section.{Biquad, sectionOut, sectionNext}
 use Rattle.sections.specs.FirstOrder.{FirstPart, firstOut, firstNext}
 use Rattle.poles.specs.Butterworth.{lpBiquad, hpBiquad, lpFirst, hpFirst}
-use Rattle.fir.specs.Fir.{TapsRecord, fir, fromCoeffs}
-use Rattle.fir.specs.View.{capacity}
+use Rattle.taps.specs.Fir.{TapsRecord, fir, fromCoeffs}
+use Rattle.taps.specs.Lent.{capacity}
 use Rattle.checks.specs.Checks.{validateParams, validateBand, validateFir}
 
 abbrev pub patterns : List Float → List ℕ

@@ -1,5 +1,2 @@
--- 01 "Tap record". Fir and its plain filter are over any float format and any capacity; View reads the code's types at f64 as its records.
-pub mod Fir
-pub mod Blocks
-pub mod Plain
+-- The tap record of the code, read as the crate taps' definitions have it.
 pub mod View

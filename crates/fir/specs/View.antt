@@ -1,19 +1,15 @@
 -- The code's types at f64, read field by field as the records of these definitions. Definitions only.
-use Prim.Native.Nat.{ℕ}
 use mathlib.Core.List.{List}
 use lib.Ieee.{Float, binary64}
 use Rattle.runs.specs.Runs.{Step, Reset, Block, Fresh}
 use Rattle.runs.specs.View.{answerView}
-use Rattle.fir.specs.Fir.{TapsRecord, fir, Made as MadeRecord}
+use Rattle.taps.specs.Fir.{TapsRecord, fir, Made as MadeRecord}
+use Rattle.taps.specs.Lent.{capacity}
 use Rattle.fir.specs.declared.TapRecord.{TapRecord}
 use Rattle.fir.specs.declared.Updated.{Updated}
 use Rattle.fir.specs.declared.WasReset.{WasReset}
 use Rattle.fir.specs.declared.Blocked.{Blocked}
 use Rattle.fir.specs.declared.Made.{Made}
-
--- the code's capacity
-abbrev pub capacity : ℕ
-capacity = 64
 
 abbrev pub tapsView : TapRecord → TapsRecord
 tapsView r = record { taps = r .taps; samples = r .samples; size = r .length; held = r .held; window = r .window }
@@ -26,10 +22,6 @@ resetView r = record { refusal = r .refusal; state = tapsView (r .filter) }
 
 abbrev pub madeView : Made → MadeRecord
 madeView m = record { refusal = m .refusal; filter = tapsView (m .filter) }
-
--- an accepted block by its parts
-abbrev pub blockOf : ℕ → TapsRecord → List Float → Block TapsRecord
-blockOf clouded r output = record { refusal = 0; clouded = clouded; state = r; output = output }
 
 -- with the output after it
 abbrev pub blockView : Blocked → List Float → Block TapsRecord

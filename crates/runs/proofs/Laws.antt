@@ -12,7 +12,7 @@ use lib.Seq.{drop-cons, take-suc-set, drop-set-lt}
 use borrow.Author.Tests.{ltb-false, lt-ltb, le-ltb}
 use Rattle.runs.specs.Refusals.{orderRefused, ShortOutput}
 use lib.Ieee.{Float, nan}
-use Rattle.runs.specs.Runs.{Answer, refused, marked, isClouded, cloudedIn, placed, written, Filter, Reset, Block, refusedBlock, Fresh, answer, step, reset, answers, after, block}
+use Rattle.runs.specs.Runs.{Answer, Step, refused, marked, isClouded, numberOf, cloudedIn, placed, written, Filter, Reset, Block, refusedBlock, Fresh, answer, step, reset, answers, after, block}
 
 module _ (F : Filter) (s : F .State) where
   pub step-refused : (x : Float) → F .check s ≡ false → record { answer = refused (F .refusal); state = s } ≡ step F s x
@@ -137,6 +137,22 @@ module _ (F : Filter) (keeps : (s : F .State) (x : Float) → F .check s ≡ tru
       let m : clouded ≡ cloudedIn (answers F s₀ input) = sym (add-zero clouded) ∙ (rw z at (p .count)) in
       let o : output ≡ written (answers F s₀ input) output₀ = sym (take-append-drop i output) ∙ (rw z at (p .places)) in
       rw (e, le-ltb (length output₀) (length input) k, ← l, ← m, ← o)
+
+number-marked : (b : Bool) (y : Float) → numberOf (marked b y) ≡ y
+number-marked true y = refl
+number-marked false y = refl
+
+clouded-marked : (b : Bool) (y : Float) → isClouded (marked b y) ≡ b
+clouded-marked true y = refl
+clouded-marked false y = refl
+
+-- what a step of a good record returns, part by part
+pub step-parts : (F : Filter) (s : F .State) (x : Float) {a : Answer} {s′ : F .State} → F .check s ≡ true → record { answer = a; state = s′ } ≡ step F s x
+    → (numberOf a ≡ F .value s x) × (isClouded a ≡ F .mark s x) × (s′ ≡ F .next s x)
+step-parts F s x {a} {s′} h e =
+    let p = e ∙ step-is F s x h in
+    let q : a ≡ answer F s x = ap (λ (z : Step (F .State)). z .answer) p in
+    (ap numberOf q ∙ number-marked (F .mark s x) (F .value s x), ap isClouded q ∙ clouded-marked (F .mark s x) (F .value s x), ap (λ (z : Step (F .State)). z .state) p)
 
 -- an order, or a number of taps, that is not refused
 pub good-order : (n most : ℕ) → orderRefused n most ≡ false → (0 < n) × (n ≤ most)

@@ -1,4 +1,4 @@
--- The refusal numbers of 01's two tables, under their names there, and the test of number 1, which designs and ready-made taps share. Definitions only.
+-- The refusal numbers of 01's two tables, under their names there, that of records lent as slices, and the test of number 1, which designs and ready-made taps share. Definitions only.
 use Prim.Native.Nat.{ℕ}
 use mathlib.Core.Bool.{Bool, _||_}
 use lib.Dec.{eqb, ltb}
@@ -31,3 +31,7 @@ BadCascade = 11
 
 abbrev pub BadTaps : ℕ
 BadTaps = 12
+
+-- of a call on lent slices: a slice, a flag or a code that the record cannot have
+abbrev pub BadCall : ℕ
+BadCall = 13

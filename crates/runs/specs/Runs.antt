@@ -29,6 +29,12 @@ isClouded (clear y) = false
 isClouded (clouded y) = true
 isClouded (refused n) = false
 
+-- the number of an answer; a refused one has none: +0
+abbrev pub numberOf : Answer → Float
+numberOf (clear y) = y
+numberOf (clouded y) = y
+numberOf (refused n) = plusZero
+
 -- how many are Clouded
 unfoldable pub cloudedIn : List Answer → ℕ
 cloudedIn [] = 0

@@ -1,5 +1,8 @@
 // What running has in common, whatever the filter: the answer to a sample, and the refusal numbers. What a step and a
 // reset are, for any filter, width and capacity, stands in specs/.
+ghost use mathlib.Core.Path.{_≡_};
+ghost use Rattle.runs.specs.Runs.{numberOf, isClouded};
+ghost use Rattle.runs.specs.View.{answerView};
 
 // 01's refusal numbers, from the input, under 003's names.
 pub const INVALID_ORDER: u8 = 1;
@@ -17,6 +20,9 @@ pub const BAD_CASCADE: u8 = 11;
 
 pub const BAD_TAPS: u8 = 12;
 
+// From a call on lent slices: a slice, a flag or a code that the record cannot have.
+pub const BAD_CALL: u8 = 13;
+
 // 01's run answer.
 pub enum Answer {
     // The number, from finite samples alone.
@@ -25,4 +31,26 @@ pub enum Answer {
     Clouded(f64),
     // The refusal number.
     Refused(u8),
+}
+
+// The number of an answer; a refused one has none: +0.
+pub fn number_of(answer: Answer) -> f64
+    ensures { λ r. ⌜ r ≡ numberOf (answerView answer) ⌝ }
+{
+    match answer {
+        Answer::Clear(y) => y,
+        Answer::Clouded(y) => y,
+        Answer::Refused(_) => 0.0,
+    }
+}
+
+// Whether an answer is Clouded.
+pub fn is_clouded(answer: Answer) -> bool
+    ensures { λ r. ⌜ r ≡ isClouded (answerView answer) ⌝ }
+{
+    match answer {
+        Answer::Clear(_) => false,
+        Answer::Clouded(_) => true,
+        Answer::Refused(_) => false,
+    }
 }

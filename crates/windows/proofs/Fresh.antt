@@ -6,9 +6,10 @@ use native.Mathlib.Omega.{arith}
 use lib.Dec.{eqb}
 use lib.Ieee.{Float, binary64}
 use borrow.Author.Tests.{eqb-true, eqb-false}
-use Rattle.fir.specs.Fir.{Made, blankTaps, holding}
-use Rattle.fir.specs.View.{capacity, FreshTaps}
-use Rattle.fir.proofs.Fresh.{holding-fresh}
+use Rattle.taps.specs.Fir.{Made, blankTaps, holding}
+use Rattle.taps.specs.Lent.{capacity}
+use Rattle.fir.specs.View.{FreshTaps}
+use Rattle.taps.proofs.Fresh.{holding-fresh}
 use Rattle.checks.specs.Checks.{validateFir}
 use Rattle.checks.proofs.Laws.{good-fir}
 use Rattle.windows.specs.Fir.{codeOf, firTaps, firLp}

@@ -5,7 +5,7 @@ use Rattle.runs.specs.Refusals.{orderRefused}
 use Rattle.checks.specs.Checks.{notPositive, cutoffRefused, bandRefused, validateParams, validateBand, validateFir}
 use Rattle.runs.specs.Runs.{notAllFinite, step, block}
 use Rattle.ieee.specs.Sqrt.{sqrtOf}
-use Rattle.fir.specs.Fir.{pushed, next, heldOf, clouding, sum, value, mark, checkTaps, holding, fromCoeffs}
+use Rattle.taps.specs.Fir.{pushed, next, heldOf, clouding, sum, value, mark, checkTaps, holding, fromCoeffs}
 use Rattle.poles.specs.Butterworth.{denominatorOf, lpBiquad, hpBiquad, lpFirst, hpFirst}
 use Rattle.claims.proofs.release_sheet.Statement.{statement}
 use Rattle.claims.proofs.release_sheet.Tie as tie

@@ -1,10 +1,10 @@
 -- `fir::TapRecord::from_coeffs` meets its contract. Assumes nothing.
 use Prim.Native.Nat.{_≤_, _-_}
 use native.Mathlib.Omega.{arith}
-use Rattle.fir.specs.Fir.{zeros}
-use Rattle.fir.specs.View.{capacity}
+use Rattle.taps.specs.Fir.{zeros}
+use Rattle.taps.specs.Lent.{capacity}
 use borrow.Author.Needs.{needs}
-use Rattle.fir.proofs.Laws.{Copying, copy-start, copy-turn, made-none, made-many, made}
+use Rattle.taps.proofs.Laws.{Copying, copy-start, copy-turn, made-none, made-many, made}
 use Rattle.fir.proofs.TapRecord.from_coeffs.Statement.{statement}
 use Rattle.fir.proofs.TapRecord.from_coeffs.Tie as tie
 

@@ -1,27 +1,34 @@
 -- `fir::TapRecord::reset` meets its contract. Assumes nothing.
-use mathlib.Core.Path.{sym, _∙_}
-use borrow.Author.Tests.{not-true, not-false}
+use mathlib.Core.Path.{_≡_, _∙_}
 use lib.Ieee.{binary64}
-use Rattle.runs.proofs.Laws.{reset-refused, reset-done}
-use Rattle.fir.specs.Fir.{clearedTaps, fir}
-use Rattle.fir.specs.View.{capacity}
+use lib.ListN.{length}
+use Rattle.runs.proofs.Lent.{lent-reset}
+use Rattle.taps.specs.Fir.{fir}
+use Rattle.taps.specs.Lent.{capacity, fits}
+use Rattle.taps.proofs.Laws.{lengths-fit}
 use borrow.Author.Needs.{needs}
 use Rattle.fir.proofs.TapRecord.reset.Statement.{statement}
 use Rattle.fir.proofs.TapRecord.reset.Tie as tie
 
-check-requires : tie.Need-check-requires
-check-requires c κs = search needs
+slice-aggregate-reset : tie.Need-slice-aggregate-reset
+slice-aggregate-reset c = search needs
+
+slice-aggregate-reset-2 : tie.Need-slice-aggregate-reset-2
+slice-aggregate-reset-2 c = search needs
+
+cast-reset : tie.Need-cast-reset
+cast-reset c = search needs
+
+reset-requires : tie.Need-reset-requires
+reset-requires c κs = search needs
 
 returns : tie.Need-returns
-returns c = reset-refused (fir capacity binary64) _ (sym (c .before .check .ensures) ∙ not-true _ (c .if1 .taken))
-
-no-numbers-requires : tie.Need-no-numbers-requires
-no-numbers-requires c κs = search needs
-
-returns-2 : tie.Need-returns-2
-unfolding clearedTaps
-returns-2 c = let e = c .before .before in
-    reset-done (fir capacity binary64) _ (sym (e .before .check .ensures) ∙ not-false _ (e .if1 .left)) (rw (c .no-numbers .ensures))
+returns c = let s = c .before .before .before .before .before .before in
+    let t : length (s .args .self .taps) ≡ capacity = search needs in
+    let h : length (s .args .self .samples) ≡ capacity = search needs in
+    c .before .reset .ensures ∙ lent-reset (fir capacity binary64) (fits capacity) _ (lengths-fit capacity _ t h)
 
 pub reset-spec : {M : Type 1} → statement M
-reset-spec = tie.close (tie.spec check-requires returns no-numbers-requires returns-2)
+reset-spec =
+    tie.close
+    (tie.spec slice-aggregate-reset slice-aggregate-reset-2 cast-reset reset-requires returns)

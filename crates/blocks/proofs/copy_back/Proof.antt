@@ -1,0 +1,64 @@
+use borrow.Author.Needs.{needs}
+-- `blocks::copy_back` meets its contract. Assumes nothing.
+use Prim.Native.Nat.{_-_}
+use native.Mathlib.Omega.{arith}
+use Rattle.blocks.proofs.Copies.{Backing, back-start, back-turn, back-done}
+use Rattle.blocks.proofs.copy_back.Statement.{statement}
+use Rattle.blocks.proofs.copy_back.Tie as tie
+
+abbrev Inv-loop : tie.InvT-loop
+Inv-loop x last n to₀ i₀ to i = Backing x last n to₀ to i
+
+abbrev μ-loop : tie.MeasureT-loop
+μ-loop x last n to₀ i₀ to i = n - i
+
+loop-holds : tie.Need-loop-holds Inv-loop μ-loop
+loop-holds c = back-start _ _ _ _
+
+sub-to : tie.Need-sub-to Inv-loop μ-loop
+sub-to c = omega arith
+
+mul-to : tie.Need-mul-to Inv-loop μ-loop
+mul-to c = search needs
+
+shared-slice-read-to : tie.Need-shared-slice-read-to Inv-loop μ-loop
+shared-slice-read-to c = omega arith
+
+mul-to-2 : tie.Need-mul-to-2 Inv-loop μ-loop
+mul-to-2 c = search needs
+
+slice-write-to : tie.Need-slice-write-to Inv-loop μ-loop
+slice-write-to c = omega arith
+
+add-i : tie.Need-add-i Inv-loop μ-loop
+add-i c = search needs
+
+loop-less : tie.Need-loop-less Inv-loop μ-loop
+loop-less c = search needs
+
+loop-again : tie.Need-loop-again Inv-loop μ-loop
+loop-again c = back-turn _ _ _ (c .before .loop-test .taken) (c .before .before .before .pre .2) (c .before .before .loop .inv)
+
+same-length : tie.Need-same-length Inv-loop μ-loop
+same-length c = c .before .loop .inv .same
+
+returns : tie.Need-returns Inv-loop μ-loop
+returns c = back-done _ _ _ (c .loop-test .left) (c .before .loop .inv)
+
+pub copy-back-spec : {M : Type 1} → statement M
+copy-back-spec =
+    tie.close
+    (tie.spec
+    Inv-loop
+    μ-loop
+    loop-holds
+    sub-to
+    mul-to
+    shared-slice-read-to
+    mul-to-2
+    slice-write-to
+    add-i
+    loop-less
+    loop-again
+    same-length
+    returns)

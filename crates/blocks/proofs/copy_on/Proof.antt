@@ -1,0 +1,70 @@
+use Rattle.blocks.proofs.Copies.{on-turn, on-done}
+use borrow.Author.Needs.{needs}
+-- `blocks::copy_on` meets its contract. Assumes nothing.
+use Prim.Native.Nat.{_-_}
+use native.Mathlib.Omega.{arith}
+use lib.ListN.{length, take, drop}
+use Rattle.convolution.proofs.Sums.{Putting, put-start}
+use Rattle.blocks.proofs.copy_on.Statement.{statement}
+use Rattle.blocks.proofs.copy_on.Tie as tie
+
+abbrev Inv-loop : tie.InvT-loop
+Inv-loop x from m to₀ n j₀ to j = Putting to₀ n (take m (drop from x)) to j
+
+abbrev μ-loop : tie.MeasureT-loop
+μ-loop x from m to₀ n j₀ to j = m - j
+
+loop-holds : tie.Need-loop-holds Inv-loop μ-loop
+loop-holds c = put-start _ _ _
+
+add-to : tie.Need-add-to Inv-loop μ-loop
+add-to c = search needs
+
+mul-to : tie.Need-mul-to Inv-loop μ-loop
+mul-to c = search needs
+
+shared-slice-read-to : tie.Need-shared-slice-read-to Inv-loop μ-loop
+shared-slice-read-to c = omega arith
+
+add-to-2 : tie.Need-add-to-2 Inv-loop μ-loop
+add-to-2 c = search needs
+
+mul-to-2 : tie.Need-mul-to-2 Inv-loop μ-loop
+mul-to-2 c = search needs
+
+slice-write-to : tie.Need-slice-write-to Inv-loop μ-loop
+slice-write-to c = omega arith
+
+add-j : tie.Need-add-j Inv-loop μ-loop
+add-j c = search needs
+
+loop-less : tie.Need-loop-less Inv-loop μ-loop
+loop-less c = search needs
+
+loop-again : tie.Need-loop-again Inv-loop μ-loop
+loop-again c = on-turn _ _ _ _ _ (c .before .loop-test .taken) (c .before .before .before .pre .0) (c .before .before .before .pre .1) (c .before .before .loop .inv)
+
+same-length : tie.Need-same-length Inv-loop μ-loop
+same-length c = c .before .loop .inv .same
+
+returns : tie.Need-returns Inv-loop μ-loop
+returns c = on-done _ _ _ _ _ (c .loop-test .left) (c .before .before .pre .0) (c .before .loop .inv)
+
+pub copy-on-spec : {M : Type 1} → statement M
+copy-on-spec =
+    tie.close
+    (tie.spec
+    Inv-loop
+    μ-loop
+    loop-holds
+    add-to
+    mul-to
+    shared-slice-read-to
+    add-to-2
+    mul-to-2
+    slice-write-to
+    add-j
+    loop-less
+    loop-again
+    same-length
+    returns)

@@ -1,0 +1,2 @@
+-- A block of samples through a lent tap record: what its parts hand to one another.
+pub mod Blocks

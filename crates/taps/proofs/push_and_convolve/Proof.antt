@@ -1,0 +1,79 @@
+-- `taps::push_and_convolve` meets its contract. Assumes nothing.
+use Prim.Native.Nat.{_≤_, _-_}
+use mathlib.Core.Path.{_≡_, refl}
+use native.Mathlib.Omega.{arith}
+use mathlib.Core.List.{_∷_}
+use lib.ListN.{take}
+use lib.Ieee.{binary64, ofBits}
+use borrow.Author.Needs.{needs}
+use Rattle.taps.proofs.Laws.{Pushing, push-start, push-turn, take-pushed, Summing, sum-turn, sum-done}
+use Rattle.taps.proofs.push_and_convolve.Statement.{statement}
+use Rattle.taps.proofs.push_and_convolve.Tie as tie
+
+abbrev Inv-loop : tie.InvT-loop
+Inv-loop taps samples₀ n x acc₀ carried₀ i₀ samples acc carried i = (i ≤ n) × Pushing samples₀ x samples carried i × Summing binary64 taps (take n (x ∷ samples₀)) acc i
+
+abbrev μ-loop : tie.MeasureT-loop
+μ-loop taps samples₀ n x acc₀ carried₀ i₀ samples acc carried i = n - i
+
+loop-holds : tie.Need-loop-holds Inv-loop μ-loop
+unfolding ofBits
+loop-holds c = (search needs, push-start _ _, refl)
+
+mul-old : tie.Need-mul-old Inv-loop μ-loop
+mul-old c = omega arith
+
+slice-read-old : tie.Need-slice-read-old Inv-loop μ-loop
+slice-read-old c = omega arith
+
+mul-samples : tie.Need-mul-samples Inv-loop μ-loop
+mul-samples c = omega arith
+
+slice-write-samples : tie.Need-slice-write-samples Inv-loop μ-loop
+slice-write-samples c = omega arith
+
+mul-acc : tie.Need-mul-acc Inv-loop μ-loop
+mul-acc c = omega arith
+
+shared-slice-read-acc : tie.Need-shared-slice-read-acc Inv-loop μ-loop
+shared-slice-read-acc c = omega arith
+
+add-i : tie.Need-add-i Inv-loop μ-loop
+add-i c = omega arith
+
+loop-less : tie.Need-loop-less Inv-loop μ-loop
+loop-less c = omega arith
+
+loop-again : tie.Need-loop-again Inv-loop μ-loop
+loop-again c = let l = c .before .before .before in
+    let a = l .before .args in
+    let p = l .loop .inv .1 in
+    (omega arith, push-turn _ _ _ _ _ (omega arith) p, rw (p .1) (sum-turn _ (a .taps .now) (a .x ∷ a .samples .now) _ (a .n) (l .loop .i) (omega arith) (omega arith) (omega arith) (l .loop .inv .2)))
+
+same-length : tie.Need-same-length Inv-loop μ-loop
+same-length c = omega arith
+
+returns : tie.Need-returns Inv-loop μ-loop
+returns c = let l = c .before in
+    let a = l .before .args in
+    let e : l .loop .i ≡ a .n = omega arith in
+    (rw (← e) (l .loop .inv .1 .0), rw (take-pushed (a .n) (a .n) (a .x) (a .samples .now) (omega arith) (omega arith)) (sum-done _ _ _ _ (a .n) (l .loop .i) (omega arith) (l .loop .inv .2)))
+
+pub push-and-convolve-spec : {M : Type 1} → statement M
+push-and-convolve-spec =
+    tie.close
+    (tie.spec
+    Inv-loop
+    μ-loop
+    loop-holds
+    mul-old
+    slice-read-old
+    mul-samples
+    slice-write-samples
+    mul-acc
+    shared-slice-read-acc
+    add-i
+    loop-less
+    loop-again
+    same-length
+    returns)

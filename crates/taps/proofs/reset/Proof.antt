@@ -1,0 +1,36 @@
+-- `taps::reset` meets its contract. Assumes nothing.
+use mathlib.Core.Path.{sym, _∙_}
+use native.Mathlib.Omega.{arith}
+use lib.Ieee.{binary64}
+use Rattle.runs.proofs.Lent.{lent-good, lent-reset-refused}
+use Rattle.taps.specs.Fir.{fir}
+use Rattle.taps.specs.Lent.{capacity, fits}
+use Rattle.taps.proofs.Laws.{reset-is}
+use borrow.Author.Needs.{needs}
+use Rattle.taps.proofs.reset.Statement.{statement}
+use Rattle.taps.proofs.reset.Tie as tie
+
+refusal-of-requires : tie.Need-refusal-of-requires
+refusal-of-requires c κs = search needs
+
+same-length : tie.Need-same-length
+same-length c = search needs
+
+returns : tie.Need-returns
+returns c = lent-reset-refused (fir capacity binary64) (fits capacity) _ (c .before .refusal-of .ensures) (c .if1 .taken)
+
+clear-requires : tie.Need-clear-requires
+clear-requires c κs = search needs
+
+same-length-2 : tie.Need-same-length-2
+same-length-2 c = search needs
+
+returns-2 : tie.Need-returns-2
+returns-2 c = let e = c .before .before .before .before in
+    let g = lent-good (fir capacity binary64) (fits capacity) _ (λ z. omega arith) (sym (e .before .refusal-of .ensures) ∙ e .if1 .left) in
+    reset-is binary64 capacity _ (g .0) (g .1) (c .before .before .clear .ensures)
+
+pub reset-spec : {M : Type 1} → statement M
+reset-spec =
+    tie.close
+    (tie.spec refusal-of-requires same-length returns clear-requires same-length-2 returns-2)

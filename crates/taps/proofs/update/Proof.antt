@@ -1,0 +1,58 @@
+-- `taps::update` meets its contract. Assumes nothing.
+use mathlib.Core.Path.{_≡_, sym, _∙_}
+use mathlib.Core.Bool.{true, false}
+use native.Mathlib.Omega.{arith}
+use lib.Ieee.{binary64}
+use Rattle.runs.proofs.Lent.{lent-good, lent-step-refused}
+use Rattle.taps.specs.Fir.{TapsRecord, checkTaps, fir}
+use Rattle.taps.specs.Lent.{capacity, lentTaps, fits}
+use Rattle.taps.proofs.Laws.{rooms, update-is}
+use borrow.Author.Needs.{needs}
+use Rattle.taps.proofs.update.Statement.{statement}
+use Rattle.taps.proofs.update.Tie as tie
+
+refusal-of-requires : tie.Need-refusal-of-requires
+refusal-of-requires c κs = search needs
+
+same-length : tie.Need-same-length
+same-length c = search needs
+
+returns : tie.Need-returns
+returns c = lent-step-refused (fir capacity binary64) (fits capacity) _ _ (c .before .refusal-of .ensures) (c .if1 .taken)
+
+-- a record that is not refused
+abbrev lent-of : tie.Else1 → TapsRecord
+lent-of e = let a = e .before .before .before .before .before .args in lentTaps (a .taps .now) (a .samples .now) (a .length) (a .held) (a .window)
+
+good : (e : tie.Else1) → (fits capacity (lent-of e) ≡ true) × (checkTaps capacity (lent-of e) ≡ true)
+good e = lent-good (fir capacity binary64) (fits capacity) (lent-of e) (λ z. omega arith) (sym (e .before .refusal-of .ensures) ∙ e .if1 .left)
+
+pass-requires : tie.Need-pass-requires
+pass-requires c κs = let g = good (c .before) in rooms capacity _ (g .0) (g .1)
+
+same-length-2 : tie.Need-same-length-2
+same-length-2 c = search needs
+
+returns-2 : tie.Need-returns-2
+returns-2 c = let g = good (c .before .before .before .before .before) in
+    update-is binary64 capacity _ (g .0) (g .1) _ true (c .before .before .before .pass .ensures) (c .if2 .taken)
+
+same-length-3 : tie.Need-same-length-3
+same-length-3 c = search needs
+
+returns-3 : tie.Need-returns-3
+returns-3 c = let g = good (c .before .before .before .before .before) in
+    update-is binary64 capacity _ (g .0) (g .1) _ false (c .before .before .before .pass .ensures) (c .if2 .left)
+
+pub update-spec : {M : Type 1} → statement M
+update-spec =
+    tie.close
+    (tie.spec
+    refusal-of-requires
+    same-length
+    returns
+    pass-requires
+    same-length-2
+    returns-2
+    same-length-3
+    returns-3)
