@@ -35,6 +35,12 @@ numberOf (clear y) = y
 numberOf (clouded y) = y
 numberOf (refused n) = plusZero
 
+-- the number that refused it, or 0
+abbrev pub refusalOf : Answer → ℕ
+refusalOf (clear y) = Accepted
+refusalOf (clouded y) = Accepted
+refusalOf (refused n) = n
+
 -- how many are Clouded
 unfoldable pub cloudedIn : List Answer → ℕ
 cloudedIn [] = 0

@@ -1,7 +1,7 @@
 // What running has in common, whatever the filter: the answer to a sample, and the refusal numbers. What a step and a
 // reset are, for any filter, width and capacity, stands in specs/.
 ghost use mathlib.Core.Path.{_≡_};
-ghost use Rattle.runs.specs.Runs.{numberOf, isClouded};
+ghost use Rattle.runs.specs.Runs.{numberOf, isClouded, refusalOf};
 ghost use Rattle.runs.specs.View.{answerView};
 
 // 01's refusal numbers, from the input, under 003's names.
@@ -52,5 +52,16 @@ pub fn is_clouded(answer: Answer) -> bool
         Answer::Clear(_) => false,
         Answer::Clouded(_) => true,
         Answer::Refused(_) => false,
+    }
+}
+
+// The number that refused, or 0.
+pub fn refusal_of(answer: Answer) -> u8
+    ensures { λ r. ⌜ r ≡ refusalOf (answerView answer) ⌝ }
+{
+    match answer {
+        Answer::Clear(_) => 0,
+        Answer::Clouded(_) => 0,
+        Answer::Refused(n) => n,
     }
 }

@@ -1,0 +1,104 @@
+-- What each call returns, and what every slice holds after it. A refused call leaves every slice. Definitions only.
+use Prim.Native.Nat.{ℕ}
+use mathlib.Core.Bool.{Bool, _&&_, cond}
+use mathlib.Core.List.{List, [], _∷_}
+use lib.Dec.{eqb, leb}
+use lib.ListN.{length}
+use lib.Ieee.{Float}
+use Rattle.runs.specs.Refusals.{Accepted, BadCall}
+use Rattle.runs.specs.Runs.{Answer, clear, clouded, refused, Step, Reset, Block, step, reset, block}
+use Rattle.taps.specs.Fir.{Made, Blackman}
+use Rattle.taps.specs.Lent.{capacity}
+use Rattle.windows.specs.Fir.{firLp}
+use Rattle.windows.specs.declared.WindowType.{WindowType}
+use Rattle.designs.specs.Design.{DesignRecord}
+use Rattle.capi.specs.Layout.{Kind, flag, cascadePlaces, cascadeNumbers, cascadeCounts, tapsCounts}
+
+-- ---- a step: the numbers and counts of the record, the place of the answer, and the place of the count of Clouded answers
+pub record Call : Type 0 where
+  pub refusal : ℕ
+  pub numbers : List Float
+  pub counts : List ℕ
+  pub answers : List Float
+  pub clouded : List ℕ
+
+module _ (K : Kind) (numbers : List Float) (counts : List ℕ) where
+  module _ (answers : List Float) (tally : List ℕ) where
+    -- a refused call
+    abbrev pub left : ℕ → Call
+    left n = record { refusal = n; numbers = numbers; counts = counts; answers = answers; clouded = tally }
+
+    -- an accepted one, by the record after it
+    abbrev pub went : K .filter .State → List Float → ℕ → Call
+    went s ys n = record { refusal = Accepted; numbers = K .numbers s; counts = K .counts s; answers = ys; clouded = n ∷ [] }
+
+    -- after a step
+    abbrev pub stepped : Answer → K .filter .State → Call
+    stepped (clear y) s = went s (y ∷ []) 0
+    stepped (clouded y) s = went s (y ∷ []) 1
+    stepped (refused n) s = left n
+
+    -- after a block
+    abbrev pub ran : Block (K .filter .State) → Call
+    ran b = cond (eqb (b .refusal) Accepted) (went (b .state) (b .output) (b .clouded)) (left (b .refusal))
+
+  -- one sample x: its answer, one place, and how many answers were Clouded, one place
+  unfoldable pub stepCall : Float → List Float → List ℕ → Call
+  stepCall x answer tally =
+      let s = step (K .filter) (K .read numbers counts) x in
+      cond (K .fit numbers counts && (eqb (length answer) 1 && eqb (length tally) 1)) (stepped answer tally (s .answer) (s .state)) (left answer tally BadCall)
+
+  -- a block: its answers in the first places of the output, and how many were Clouded, one place
+  unfoldable pub blockCall : List Float → List Float → List ℕ → Call
+  blockCall input output tally =
+      cond (K .fit numbers counts && eqb (length tally) 1) (ran output tally (block (K .filter) (K .read numbers counts) input output)) (left output tally BadCall)
+
+-- ---- a reset
+pub record Kept : Type 0 where
+  pub refusal : ℕ
+  pub numbers : List Float
+  pub counts : List ℕ
+
+unfoldable pub resetCall : Kind → List Float → List ℕ → Kept
+resetCall K numbers counts =
+    let s = reset (K .filter) (K .read numbers counts) in
+    cond (K .fit numbers counts)
+    (cond (eqb (s .refusal) Accepted) (record { refusal = Accepted; numbers = K .numbers (s .state); counts = K .counts (s .state) }) (record { refusal = s .refusal; numbers = numbers; counts = counts }))
+    (record { refusal = BadCall; numbers = numbers; counts = counts })
+
+-- ---- a cascade's design into slices
+unfoldable pub designCall : DesignRecord → List Float → List ℕ → Kept
+designCall d numbers counts =
+    cond (cascadePlaces numbers counts)
+    (cond (eqb (d .refusal) Accepted) (record { refusal = Accepted; numbers = cascadeNumbers (d .cascade); counts = cascadeCounts (d .cascade) })
+    (record { refusal = d .refusal; numbers = numbers; counts = counts }))
+    (record { refusal = BadCall; numbers = numbers; counts = counts })
+
+-- ---- taps, designed or ready-made, into slices
+
+-- the window of a code
+abbrev pub windowOf : ℕ → WindowType
+windowOf n = cond (eqb n 0) WindowType.Rectangular (cond (eqb n 1) WindowType.Hamming (cond (eqb n 2) WindowType.Hanning WindowType.Blackman))
+
+pub record TapsKept : Type 0 where
+  pub refusal : ℕ
+  pub taps : List Float
+  pub samples : List Float
+  pub counts : List ℕ
+
+module _ (taps samples : List Float) (counts : List ℕ) where
+  abbrev pub tapsLeft : ℕ → TapsKept
+  tapsLeft n = record { refusal = n; taps = taps; samples = samples; counts = counts }
+
+  unfoldable pub tapsPlaces : Bool
+  tapsPlaces = eqb (length taps) capacity && (eqb (length samples) capacity && eqb (length counts) 3)
+
+  unfoldable pub madeCall : Made → TapsKept
+  madeCall m =
+      cond tapsPlaces
+      (cond (eqb (m .refusal) Accepted) (record { refusal = Accepted; taps = m .filter .taps; samples = m .filter .samples; counts = tapsCounts (m .filter) }) (tapsLeft (m .refusal)))
+      (tapsLeft BadCall)
+
+  -- a FIR design by the window's code; there is none above 3
+  unfoldable pub firCall : ℕ → Float → ℕ → TapsKept
+  firCall n cutoff window = cond (leb window Blackman) (madeCall (firLp n cutoff (windowOf window))) (tapsLeft BadCall)

@@ -1,0 +1,94 @@
+-- How a cascade and a tap record stand in slices of numbers that a caller lends. Definitions only.
+use Prim.Native.Nat.{ℕ, _+_}
+use mathlib.Core.Bool.{Bool, _&&_, cond}
+use mathlib.Core.List.{List, [], _∷_, _++_}
+use lib.Dec.{eqb, leb}
+use lib.ListN.{length, getD}
+use lib.Ieee.{Float, nan, binary64}
+use Rattle.runs.specs.Runs.{Filter}
+use Rattle.sections.specs.Section.{Biquad}
+use Rattle.sections.specs.FirstOrder.{FirstPart}
+use Rattle.cascade.specs.Cascade.{CascadeRecord, cascade}
+use Rattle.taps.specs.Fir.{TapsRecord, fir}
+use Rattle.taps.specs.Lent.{capacity, lentTaps, fits}
+
+-- ---- a cascade: 32 numbers and 3 counts
+
+-- a section's seven numbers, from place k on
+abbrev pub sectionAt : List Float → ℕ → Biquad
+sectionAt xs k = record {
+  b0 = getD xs k nan;
+  b1 = getD xs (k + 1) nan;
+  b2 = getD xs (k + 2) nan;
+  a1 = getD xs (k + 3) nan;
+  a2 = getD xs (k + 4) nan;
+  w1 = getD xs (k + 5) nan;
+  w2 = getD xs (k + 6) nan;
+}
+
+-- the first-order part's four
+abbrev pub firstAt : List Float → ℕ → FirstPart
+firstAt xs k = record { b0 = getD xs k nan; b1 = getD xs (k + 1) nan; a1 = getD xs (k + 2) nan; w = getD xs (k + 3) nan }
+
+-- four sections, then the first-order part; the counts are the section count, the first-order flag and the cloud flag
+unfoldable pub cascadeAt : List Float → List ℕ → CascadeRecord
+cascadeAt numbers counts = record {
+  sections = sectionAt numbers 0 ∷ sectionAt numbers 7 ∷ sectionAt numbers 14 ∷ sectionAt numbers 21 ∷ [];
+  count = getD counts 0 0;
+  first = firstAt numbers 28;
+  hasFirst = eqb (getD counts 1 0) 1;
+  clouded = eqb (getD counts 2 0) 1;
+}
+
+-- and back
+abbrev pub sectionNumbers : Biquad → List Float
+sectionNumbers s = s .b0 ∷ s .b1 ∷ s .b2 ∷ s .a1 ∷ s .a2 ∷ s .w1 ∷ s .w2 ∷ []
+
+unfoldable pub sectionsNumbers : List Biquad → List Float
+sectionsNumbers [] = []
+sectionsNumbers (s ∷ ss) = sectionNumbers s ++ sectionsNumbers ss
+
+abbrev pub firstNumbers : FirstPart → List Float
+firstNumbers p = p .b0 ∷ p .b1 ∷ p .a1 ∷ p .w ∷ []
+
+unfoldable pub cascadeNumbers : CascadeRecord → List Float
+cascadeNumbers c = sectionsNumbers (c .sections) ++ firstNumbers (c .first)
+
+abbrev pub flag : Bool → ℕ
+flag b = cond b 1 0
+
+unfoldable pub cascadeCounts : CascadeRecord → List ℕ
+cascadeCounts c = c .count ∷ flag (c .hasFirst) ∷ flag (c .clouded) ∷ []
+
+-- whether slices have the places of a cascade, and whether they can be one: a flag is 0 or 1
+unfoldable pub cascadePlaces : List Float → List ℕ → Bool
+cascadePlaces numbers counts = eqb (length numbers) 32 && eqb (length counts) 3
+
+unfoldable pub cascadeFits : List Float → List ℕ → Bool
+cascadeFits numbers counts = cascadePlaces numbers counts && (leb (getD counts 1 0) 1 && leb (getD counts 2 0) 1)
+
+-- ---- a tap record: taps, samples and 3 counts, which are the length, the held count and the window code
+
+unfoldable pub tapsAt : List Float → List Float → List ℕ → TapsRecord
+tapsAt taps samples counts = lentTaps taps samples (getD counts 0 0) (getD counts 1 0) (getD counts 2 0)
+
+unfoldable pub tapsCounts : TapsRecord → List ℕ
+tapsCounts r = r .size ∷ r .held ∷ r .window ∷ []
+
+unfoldable pub tapsFit : List Float → List Float → List ℕ → Bool
+tapsFit taps samples counts = eqb (length counts) 3 && fits capacity (tapsAt taps samples counts)
+
+-- ---- either kind: its filter, and how a record stands in the two slices that a call may change
+pub record Kind : Type 1 where
+  pub filter : Filter
+  pub fit : List Float → List ℕ → Bool
+  pub read : List Float → List ℕ → filter .State
+  pub numbers : filter .State → List Float
+  pub counts : filter .State → List ℕ
+
+abbrev pub cascadeKind : Kind
+cascadeKind = record { filter = cascade binary64; fit = cascadeFits; read = cascadeAt; numbers = cascadeNumbers; counts = cascadeCounts }
+
+-- with these taps, which no call changes
+abbrev pub firKind : List Float → Kind
+firKind taps = record { filter = fir capacity binary64; fit = tapsFit taps; read = tapsAt taps; numbers = λ r. r .samples; counts = tapsCounts }

@@ -1,0 +1,84 @@
+// Steps, blocks and resets of a lent cascade.
+ghost use mathlib.Core.Path.{_≡_};
+ghost use Rattle.capi.specs.Layout.{cascadeKind};
+ghost use Rattle.capi.specs.Calls.{stepCall, blockCall, resetCall};
+use super::answer::put;
+use super::answer::single;
+use super::layout::fits;
+use super::layout::read;
+use super::layout::write;
+
+// One sample x.
+#[no_mangle]
+pub extern "C" fn pulse_cascade_step(
+    numbers: &mut [f64],
+    counts: &mut [usize],
+    x: f64,
+    answer: &mut [f64],
+    clouded: &mut [usize],
+) -> u8
+    ensures { λ r. ⌜ record { refusal = r; numbers = now (numbers .exit); counts = now (counts .exit); answers = now (answer .exit); clouded = now (clouded .exit) }
+        ≡ stepCall cascadeKind (now (numbers .entry)) (now (counts .entry)) x (now (answer .entry)) (now (clouded .entry)) ⌝ }
+{
+    if !single(answer, clouded) {
+        return runs::BAD_CALL;
+    }
+    if !fits(numbers, counts) {
+        return runs::BAD_CALL;
+    }
+    let u = read(numbers, counts).update(x);
+    let a = u.answer;
+    let refusal = runs::refusal_of(a);
+    if refusal != 0 {
+        return refusal;
+    }
+    write(u.cascade, numbers, counts);
+    put(a, answer, clouded);
+    0
+}
+
+// A block of samples.
+#[no_mangle]
+pub extern "C" fn pulse_cascade_block(
+    numbers: &mut [f64],
+    counts: &mut [usize],
+    input: &[f64],
+    output: &mut [f64],
+    clouded: &mut [usize],
+) -> u8
+    ensures { λ r. ⌜ record { refusal = r; numbers = now (numbers .exit); counts = now (counts .exit); answers = now (output .exit); clouded = now (clouded .exit) }
+        ≡ blockCall cascadeKind (now (numbers .entry)) (now (counts .entry)) (now (input .entry)) (now (output .entry)) (now (clouded .entry)) ⌝ }
+{
+    if clouded.len() != 1 {
+        return runs::BAD_CALL;
+    }
+    if !fits(numbers, counts) {
+        return runs::BAD_CALL;
+    }
+    let b = read(numbers, counts).block(input, output);
+    let refusal = b.refusal;
+    if refusal != 0 {
+        return refusal;
+    }
+    write(b.cascade, numbers, counts);
+    clouded[0] = b.clouded;
+    0
+}
+
+// A reset.
+#[no_mangle]
+pub extern "C" fn pulse_cascade_reset(numbers: &mut [f64], counts: &mut [usize]) -> u8
+    ensures { λ r. ⌜ record { refusal = r; numbers = now (numbers .exit); counts = now (counts .exit) }
+        ≡ resetCall cascadeKind (now (numbers .entry)) (now (counts .entry)) ⌝ }
+{
+    if !fits(numbers, counts) {
+        return runs::BAD_CALL;
+    }
+    let w = read(numbers, counts).reset();
+    let refusal = w.refusal;
+    if refusal != 0 {
+        return refusal;
+    }
+    write(w.cascade, numbers, counts);
+    0
+}
