@@ -6,7 +6,8 @@ use lib.Dec.{eqb, leb}
 use lib.ListN.{length}
 use lib.Ieee.{Float}
 use Rattle.runs.specs.Refusals.{Accepted, BadCall}
-use Rattle.runs.specs.Runs.{Answer, clear, clouded, refused, Step, Reset, Block, step, reset, block}
+use Rattle.runs.specs.Runs.{numberOf, isClouded, refusalOf, Step, Block}
+use Rattle.runs.specs.Lent.{lentStep, lentReset, lentBlock}
 use Rattle.taps.specs.Fir.{Made, Blackman}
 use Rattle.taps.specs.Lent.{capacity}
 use Rattle.windows.specs.Fir.{firLp}
@@ -14,7 +15,7 @@ use Rattle.windows.specs.declared.WindowType.{WindowType}
 use Rattle.designs.specs.Design.{DesignRecord}
 use Rattle.capi.specs.Layout.{Kind, flag, cascadePlaces, cascadeNumbers, cascadeCounts, tapsCounts}
 
--- ---- a step: the numbers and counts of the record, the place of the answer, and the place of the count of Clouded answers
+-- ---- a step and a block: the numbers and counts of the record, the places of the answers, and the place of the count of Clouded answers
 pub record Call : Type 0 where
   pub refusal : ℕ
   pub numbers : List Float
@@ -23,35 +24,37 @@ pub record Call : Type 0 where
   pub clouded : List ℕ
 
 module _ (K : Kind) (numbers : List Float) (counts : List ℕ) where
+  -- the record, and the test of the slices that goes before its own check
+  abbrev pub recordOf : K .filter .State
+  recordOf = K .read numbers counts
+
+  abbrev pub fitting : K .filter .State → Bool
+  fitting s = K .fit numbers counts
+
   module _ (answers : List Float) (tally : List ℕ) where
     -- a refused call
     abbrev pub left : ℕ → Call
     left n = record { refusal = n; numbers = numbers; counts = counts; answers = answers; clouded = tally }
 
-    -- an accepted one, by the record after it
+    -- an accepted one, by the record after it, its answers and how many were Clouded
     abbrev pub went : K .filter .State → List Float → ℕ → Call
     went s ys n = record { refusal = Accepted; numbers = K .numbers s; counts = K .counts s; answers = ys; clouded = n ∷ [] }
 
-    -- after a step
-    abbrev pub stepped : Answer → K .filter .State → Call
-    stepped (clear y) s = went s (y ∷ []) 0
-    stepped (clouded y) s = went s (y ∷ []) 1
-    stepped (refused n) s = left n
+    abbrev pub stepped : Step (K .filter .State) → Call
+    stepped s = cond (eqb (refusalOf (s .answer)) Accepted) (went (s .state) (numberOf (s .answer) ∷ []) (flag (isClouded (s .answer)))) (left (refusalOf (s .answer)))
 
-    -- after a block
     abbrev pub ran : Block (K .filter .State) → Call
     ran b = cond (eqb (b .refusal) Accepted) (went (b .state) (b .output) (b .clouded)) (left (b .refusal))
 
-  -- one sample x: its answer, one place, and how many answers were Clouded, one place
+  -- one sample x: its answer goes to one place, and so does how many answers were Clouded, 0 or 1
   unfoldable pub stepCall : Float → List Float → List ℕ → Call
   stepCall x answer tally =
-      let s = step (K .filter) (K .read numbers counts) x in
-      cond (K .fit numbers counts && (eqb (length answer) 1 && eqb (length tally) 1)) (stepped answer tally (s .answer) (s .state)) (left answer tally BadCall)
+      cond (eqb (length answer) 1 && eqb (length tally) 1) (stepped answer tally (lentStep (K .filter) fitting recordOf x)) (left answer tally BadCall)
 
-  -- a block: its answers in the first places of the output, and how many were Clouded, one place
+  -- a block: its answers go to the first places of the output, and how many were Clouded to one place
   unfoldable pub blockCall : List Float → List Float → List ℕ → Call
   blockCall input output tally =
-      cond (K .fit numbers counts && eqb (length tally) 1) (ran output tally (block (K .filter) (K .read numbers counts) input output)) (left output tally BadCall)
+      cond (eqb (length tally) 1) (ran output tally (lentBlock (K .filter) fitting recordOf input output)) (left output tally BadCall)
 
 -- ---- a reset
 pub record Kept : Type 0 where
@@ -59,20 +62,21 @@ pub record Kept : Type 0 where
   pub numbers : List Float
   pub counts : List ℕ
 
+-- slices as they were
+abbrev pub kept : List Float → List ℕ → ℕ → Kept
+kept numbers counts n = record { refusal = n; numbers = numbers; counts = counts }
+
 unfoldable pub resetCall : Kind → List Float → List ℕ → Kept
 resetCall K numbers counts =
-    let s = reset (K .filter) (K .read numbers counts) in
-    cond (K .fit numbers counts)
-    (cond (eqb (s .refusal) Accepted) (record { refusal = Accepted; numbers = K .numbers (s .state); counts = K .counts (s .state) }) (record { refusal = s .refusal; numbers = numbers; counts = counts }))
-    (record { refusal = BadCall; numbers = numbers; counts = counts })
+    let s = lentReset (K .filter) (fitting K numbers counts) (recordOf K numbers counts) in
+    cond (eqb (s .refusal) Accepted) (record { refusal = Accepted; numbers = K .numbers (s .state); counts = K .counts (s .state) }) (kept numbers counts (s .refusal))
 
 -- ---- a cascade's design into slices
 unfoldable pub designCall : DesignRecord → List Float → List ℕ → Kept
 designCall d numbers counts =
     cond (cascadePlaces numbers counts)
-    (cond (eqb (d .refusal) Accepted) (record { refusal = Accepted; numbers = cascadeNumbers (d .cascade); counts = cascadeCounts (d .cascade) })
-    (record { refusal = d .refusal; numbers = numbers; counts = counts }))
-    (record { refusal = BadCall; numbers = numbers; counts = counts })
+    (cond (eqb (d .refusal) Accepted) (record { refusal = Accepted; numbers = cascadeNumbers (d .cascade); counts = cascadeCounts (d .cascade) }) (kept numbers counts (d .refusal)))
+    (kept numbers counts BadCall)
 
 -- ---- taps, designed or ready-made, into slices
 

@@ -1,12 +1,12 @@
 // How a cascade stands in slices: 32 numbers and 3 counts.
 ghost use mathlib.Core.Path.{_≡_};
-ghost use mathlib.Core.List.{[], _∷_};
+ghost use mathlib.Core.List.{[], _∷_, _++_, map};
 ghost use Prim.Native.Nat.{_≤_};
-ghost use lib.ListN.{length};
+ghost use lib.ListN.{length, drop};
 ghost use Rattle.convolution.specs.Convolution.{placed};
 ghost use Rattle.sections.specs.View.{sectionView, firstView};
 ghost use Rattle.cascade.specs.View.{cascadeView};
-ghost use Rattle.capi.specs.Layout.{sectionAt, firstAt, cascadeAt, sectionNumbers, firstNumbers, cascadeNumbers, cascadeCounts, cascadePlaces, cascadeFits};
+ghost use Rattle.capi.specs.Layout.{sectionAt, firstAt, cascadeAt, sectionNumbers, sectionsNumbers, firstNumbers, cascadeNumbers, cascadeCounts, cascadePlaces, cascadeFits};
 use super::answer::flag;
 use cascade::Cascade;
 use sections::FirstOrder;
@@ -101,6 +101,17 @@ fn put_section(s: Section, numbers: &mut [f64], at: usize)
     numbers[at + 6] = s.w2;
 }
 
+// The numbers of four sections, in the first places.
+fn put_sections(sections: [Section; 4], numbers: &mut [f64])
+    requires { ⌜ length (now numbers) ≡ 32 ⌝ }
+    ensures { λ _. ⌜ now (numbers .exit) ≡ sectionsNumbers (map sectionView sections) ++ drop 28 (now (numbers .entry)) ⌝ }
+{
+    put_section(sections[0], numbers, 0);
+    put_section(sections[1], numbers, 7);
+    put_section(sections[2], numbers, 14);
+    put_section(sections[3], numbers, 21);
+}
+
 // The first-order part's numbers, behind the sections.
 fn put_first(p: FirstOrder, numbers: &mut [f64])
     requires { ⌜ length (now numbers) ≡ 32 ⌝ }
@@ -128,10 +139,8 @@ pub(crate) fn write(c: Cascade, numbers: &mut [f64], counts: &mut [usize])
     ensures { λ _. ⌜ (now (numbers .exit) ≡ cascadeNumbers (cascadeView c)) × (now (counts .exit) ≡ cascadeCounts (cascadeView c)) ⌝ }
 {
     let sections = c.sections;
-    put_section(sections[0], numbers, 0);
-    put_section(sections[1], numbers, 7);
-    put_section(sections[2], numbers, 14);
-    put_section(sections[3], numbers, 21);
-    put_first(c.first, numbers);
+    put_sections(sections, numbers);
+    let first = c.first;
+    put_first(first, numbers);
     put_counts(counts, c.count, flag(c.has_first), flag(c.clouded));
 }

@@ -1,13 +1,19 @@
 -- Laws of records lent as slices, for any filter. Assumes nothing.
-use mathlib.Core.Path.{_≡_, refl, sym, _∙_}
+use mathlib.Core.Path.{_≡_, refl, sym, ap, _∙_}
 use mathlib.Core.Bool.{Bool, true, false, cond}
 use mathlib.Core.List.{List}
 use Prim.Native.Nat.{ℕ}
 use native.Mathlib.Omega.{arith}
+use lib.Dec.{ltb}
+use lib.ListN.{length}
 use lib.Ieee.{Float}
-use Rattle.runs.specs.Refusals.{Accepted, BadCall}
-use Rattle.runs.specs.Runs.{Filter, Step, Reset, Block, refused, refusedBlock, step, reset, block}
+use Rattle.runs.specs.Refusals.{Accepted, ShortOutput, BadCall}
+use Rattle.runs.specs.Runs.{Filter, Answer, Step, Reset, Block, refused, marked, refusalOf, refusedBlock, answer, step, reset, answers, after, cloudedIn, written, block}
 use Rattle.runs.specs.Lent.{lentRefusal, lentStep, lentReset, lentBlock}
+
+marked-accepted : (b : Bool) (y : Float) → refusalOf (marked b y) ≡ 0
+marked-accepted true y = refl
+marked-accepted false y = refl
 
 module _ (F : Filter) (fits : F .State → Bool) (s : F .State) where
   -- what is refused by no number fits and passes the check
@@ -74,3 +80,56 @@ module _ (F : Filter) (fits : F .State → Bool) (s : F .State) where
       go true true p q e = absurd (h e)
       go true false p q e = rw (p, q, e)
       go false b p q e = rw (p, e)
+
+  -- slices that do not fit
+  pub unfit-step : (x : Float) → fits s ≡ false → lentStep F fits s x ≡ record { answer = refused BadCall; state = s }
+  unfolding lentStep
+  unfit-step x h = rw h
+
+  pub unfit-reset : fits s ≡ false → lentReset F fits s ≡ record { refusal = BadCall; state = s }
+  unfolding lentReset
+  unfit-reset h = rw h
+
+  pub unfit-block : (input output : List Float) → fits s ≡ false → lentBlock F fits s input output ≡ refusedBlock BadCall s output
+  unfolding lentBlock
+  unfit-block input output h = rw h
+
+  -- a refused call changes nothing
+  pub step-keeps : (x : Float) {a : Answer} {t : F .State} → record { answer = a; state = t } ≡ lentStep F fits s x → (refusalOf a ≡ 0 → ⊥) → t ≡ s
+  unfolding lentStep step
+  step-keeps x {a} {t} e h = go (fits s) (F .check s) refl refl
+    where
+      go : (b d : Bool) → fits s ≡ b → F .check s ≡ d → t ≡ s
+      go true true p q = let z : _≡_ {A = Step (F .State)} (record { answer = a; state = t }) (record { answer = answer F s x; state = F .next s x }) = e ∙ rw (p, q) in
+          absurd (h (ap (λ (w : Step (F .State)). refusalOf (w .answer)) z ∙ marked-accepted (F .mark s x) (F .value s x)))
+      go true false p q = let z : _≡_ {A = Step (F .State)} (record { answer = a; state = t }) (record { answer = refused (F .refusal); state = s }) = e ∙ rw (p, q) in
+          ap (λ (w : Step (F .State)). w .state) z
+      go false d p q = let z : _≡_ {A = Step (F .State)} (record { answer = a; state = t }) (record { answer = refused BadCall; state = s }) = e ∙ rw p in
+          ap (λ (w : Step (F .State)). w .state) z
+
+  pub reset-keeps : {n : ℕ} {t : F .State} → record { refusal = n; state = t } ≡ lentReset F fits s → (n ≡ 0 → ⊥) → t ≡ s
+  unfolding lentReset reset
+  reset-keeps {n} {t} e h = go (fits s) (F .check s) refl refl
+    where
+      go : (b d : Bool) → fits s ≡ b → F .check s ≡ d → t ≡ s
+      go true true p q = let z : _≡_ {A = Reset (F .State)} (record { refusal = n; state = t }) (record { refusal = 0; state = F .cleared s }) = e ∙ rw (p, q) in absurd (h (ap (λ (w : Reset (F .State)). w .refusal) z))
+      go true false p q = let z : _≡_ {A = Reset (F .State)} (record { refusal = n; state = t }) (record { refusal = F .refusal; state = s }) = e ∙ rw (p, q) in ap (λ (w : Reset (F .State)). w .state) z
+      go false d p q = let z : _≡_ {A = Reset (F .State)} (record { refusal = n; state = t }) (record { refusal = BadCall; state = s }) = e ∙ rw p in ap (λ (w : Reset (F .State)). w .state) z
+
+  pub block-keeps : (input output : List Float) {n c : ℕ} {t : F .State} {o : List Float} → record { refusal = n; clouded = c; state = t; output = o } ≡ lentBlock F fits s input output → (n ≡ 0 → ⊥)
+      → (t ≡ s) × (o ≡ output)
+  unfolding lentBlock block
+  block-keeps input output {n} {c} {t} {o} e h = go (fits s) (F .check s) (ltb (length output) (length input)) refl refl refl
+    where
+      same : {m : ℕ} → _≡_ {A = Block (F .State)} (record { refusal = n; clouded = c; state = t; output = o }) (refusedBlock m s output) → (t ≡ s) × (o ≡ output)
+      same z = (ap (λ (w : Block (F .State)). w .state) z, ap (λ (w : Block (F .State)). w .output) z)
+
+      go : (b d l : Bool) → fits s ≡ b → F .check s ≡ d → ltb (length output) (length input) ≡ l → (t ≡ s) × (o ≡ output)
+      go true true true p q r = same {m = ShortOutput} (e ∙ rw (p, q, r))
+      go true true false p q r = absurd (h (ap (λ (w : Block (F .State)). w .refusal) (e ∙ accepted (p, q, r))))
+        where
+          accepted : (fits s ≡ true) × (F .check s ≡ true) × (ltb (length output) (length input) ≡ false)
+              → lentBlock F fits s input output ≡ record { refusal = 0; clouded = cloudedIn (answers F s input); state = after F s input; output = written (answers F s input) output }
+          accepted g = rw (g .0, g .1, g .2)
+      go true false l p q r = same {m = F .refusal} (e ∙ rw (p, q))
+      go false d l p q r = same {m = BadCall} (e ∙ rw p)

@@ -257,6 +257,10 @@ copy-turn ts l₀ l i h k p =
     let e = drop-cons l₀ i nan k in
     (rw (p .0, add-one, e) (set-at (take i ts) _ (drop (suc i) l₀) _ i t ∙ snoc-take ts (drop (suc i) l₀) i h), length-set l i (getD ts i nan) ∙ p .1)
 
+pub copy-done : (ts l₀ l : List Float) (i : ℕ) → length ts ≤ i → length ts ≡ length l₀ → Copying ts l₀ l i → l ≡ ts
+copy-done ts l₀ l i h k p = let z = drop-of-length-le l₀ {i = i} (omega arith) in
+    p .0 ∙ rw (z, append-nil) (take-all i ts h)
+
 -- the loop that clears copies +0
 abbrev pub Clearing : List Float → List Float → ℕ → Type 0
 Clearing l₀ l i = Copying (replicate (length l₀) plusZero) l₀ l i
@@ -265,9 +269,7 @@ pub clear-turn : (l₀ l : List Float) (i : ℕ) → i < length l₀ → Clearin
 clear-turn l₀ l i h p = rw (getD-replicate (length l₀) i plusZero nan h) at (copy-turn (replicate (length l₀) plusZero) l₀ l i (rw length-replicate h) h p)
 
 pub clear-done : (l₀ l : List Float) (i : ℕ) → length l₀ ≤ i → Clearing l₀ l i → l ≡ replicate (length l₀) plusZero
-clear-done l₀ l i h p =
-    let z = drop-of-length-le l₀ {i = i} h in
-    p .0 ∙ rw (z, append-nil) (take-all i (replicate (length l₀) plusZero) (rw length-replicate h))
+clear-done l₀ l i h p = copy-done (replicate (length l₀) plusZero) l₀ l i (rw length-replicate h) (length-replicate (length l₀) plusZero) p
 
 module _ (capacity : ℕ) (ts : List Float) where
   pub made-none : {r : TapsRecord} → length ts < 1 → r ≡ blankTaps capacity → _≡_ {A = Made} (record { refusal = InvalidOrder; filter = r }) (fromCoeffs capacity ts)

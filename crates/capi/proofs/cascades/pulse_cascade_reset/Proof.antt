@@ -1,64 +1,72 @@
+-- `capi::cascades::pulse_cascade_reset` meets its contract. Assumes nothing.
+use mathlib.Core.Path.{_≡_, sym, _∙_}
+use mathlib.Core.Bool.{true, _&&_}
+use lib.Dec.{eqb}
+use lib.ListN.{length}
+use borrow.Author.Tests.{not-true, not-false}
+use Rattle.runs.specs.Runs.{Reset}
+use Rattle.runs.specs.Lent.{lentReset}
+use Rattle.cascade.specs.View.{resetView}
+use Rattle.capi.specs.Layout.{cascadeFits, cascadeKind}
+use Rattle.capi.specs.Calls.{fitting, recordOf}
+use Rattle.capi.proofs.Laws.{fits-lengths, reset-unfit, lend-reset, reset-left, reset-went}
 use borrow.Author.Needs.{needs}
 use Rattle.capi.proofs.cascades.pulse_cascade_reset.Statement.{statement}
 use Rattle.capi.proofs.cascades.pulse_cascade_reset.Tie as tie
-use Rattle.capi.proofs.cascades.pulse_cascade_reset.Reads as reads
-use Rattle.capi.proofs.cascades.pulse_cascade_reset.Lts as lts
-use Rattle.capi.proofs.layout.fits.Reads as fits-reads
-use Rattle.capi.proofs.layout.read.Reads as read-reads
-use Rattle.capi.proofs.layout.write.Reads as write-reads
-use Rattle.cascade.proofs.Cascade.reset.Reads as reset-reads
 
--- src/cascades.rt:74:9
+abbrev start : tie.Else1 → tie.Start
+start e = e .before .before .before .before .before .before
+
+fit : (e : tie.Else1) → cascadeFits (start e .args .numbers .now) (start e .args .counts .now) ≡ true
+fit e = sym (e .before .fits2 .ensures) ∙ not-false _ (e .if1 .left)
+
+abbrev else1 : tie.After-reset → tie.Else1
+else1 r = r .before .before .before .before
+
+went : (r : tie.After-reset) → let a = start (else1 r) .args in
+    resetView (r .reset .result) ≡ lentReset (cascadeKind .filter) (fitting cascadeKind (a .numbers .now) (a .counts .now)) (recordOf cascadeKind (a .numbers .now) (a .counts .now))
+went r = let a = start (else1 r) .args in
+    lend-reset cascadeKind (a .numbers .now) (a .counts .now) (fit (else1 r)) (r .before .read .ensures) (r .reset .ensures)
+
 fits-requires : tie.Need-fits-requires
 fits-requires c κs = search needs
 
--- src/cascades.rt:75:9
 same-length : tie.Need-same-length
 same-length c = search needs
 
--- src/cascades.rt:75:9
 same-length-2 : tie.Need-same-length-2
 same-length-2 c = search needs
 
--- src/cascades.rt:75:9
 returns : tie.Need-returns
-returns c = ?
+returns c = reset-unfit cascadeKind _ _ (sym (c .before .fits2 .ensures) ∙ not-true _ (c .if1 .taken))
 
--- src/cascades.rt:77:13
 read-requires : tie.Need-read-requires
-read-requires c κs = ?
+read-requires c κs = fits-lengths _ _ (fit (c .before .before))
 
--- src/cascades.rt:77:9
 reset-requires : tie.Need-reset-requires
 reset-requires c κs = search needs
 
--- src/cascades.rt:80:9
 same-length-3 : tie.Need-same-length-3
 same-length-3 c = search needs
 
--- src/cascades.rt:80:9
 same-length-4 : tie.Need-same-length-4
 same-length-4 c = search needs
 
--- src/cascades.rt:80:9
 returns-2 : tie.Need-returns-2
-returns-2 c = ?
+returns-2 c = reset-left cascadeKind _ _ (went (c .before)) (c .if2 .taken)
 
--- src/cascades.rt:82:5
 write-requires : tie.Need-write-requires
-write-requires c κs = ?
+write-requires c κs = fits-lengths _ _ (fit (c .before .before .before .before .before .before .before))
 
--- src/cascades.rt:69:1
 same-length-5 : tie.Need-same-length-5
 same-length-5 c = search needs
 
--- src/cascades.rt:69:1
 same-length-6 : tie.Need-same-length-6
 same-length-6 c = search needs
 
--- src/cascades.rt:69:1
 returns-3 : tie.Need-returns-3
-returns-3 c = ?
+returns-3 c = let w = c .before .before .before .before .write .ensures in
+    reset-went cascadeKind _ _ (went (c .before .before .before .before .before .before .before .before)) (c .before .before .before .before .before .before .before .if2 .left) (w .0) (w .1)
 
 pub pulse-cascade-reset-spec : {M : Type 1} → statement M
 pulse-cascade-reset-spec =

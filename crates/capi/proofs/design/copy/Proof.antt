@@ -1,53 +1,54 @@
+-- `capi::design::copy` meets its contract. Assumes nothing.
+use Prim.Native.Nat.{_≤_, _<_, _-_}
+use mathlib.Core.Path.{_≡_, refl}
+use native.Mathlib.Omega.{arith}
+use lib.ListN.{length}
+use Rattle.taps.proofs.Laws.{Copying, copy-start, copy-turn, copy-done}
 use Rattle.capi.proofs.design.copy.Statement.{statement}
 use Rattle.capi.proofs.design.copy.Tie as tie
-use Rattle.capi.proofs.design.copy.Reads as reads
-use Rattle.capi.proofs.design.copy.Lts as lts
 
 abbrev Inv-loop : tie.InvT-loop
-Inv-loop from to₀ i₀ to i = ?
+Inv-loop from to₀ i₀ to i = (i ≤ length from) × Copying from to₀ to i
 
 abbrev μ-loop : tie.MeasureT-loop
-μ-loop from to₀ i₀ to i = ?
+μ-loop from to₀ i₀ to i = length from - i
 
--- src/design.rt:138:5
 loop-holds : tie.Need-loop-holds Inv-loop μ-loop
-loop-holds c = ?
+loop-holds c = (omega arith, copy-start (c .args .from .now) (c .args .to .now) (c .args .to .now) refl)
 
--- src/design.rt:139:17
 mul-to : tie.Need-mul-to Inv-loop μ-loop
-mul-to c = ?
+mul-to c = omega arith
 
--- src/design.rt:139:17
 shared-slice-read-to : tie.Need-shared-slice-read-to Inv-loop μ-loop
-shared-slice-read-to c = ?
+shared-slice-read-to c = omega arith
 
--- src/design.rt:139:9
 mul-to-2 : tie.Need-mul-to-2 Inv-loop μ-loop
-mul-to-2 c = ?
+mul-to-2 c = omega arith
 
--- src/design.rt:139:9
 slice-write-to : tie.Need-slice-write-to Inv-loop μ-loop
-slice-write-to c = ?
+slice-write-to c = omega (arith, c .before .before .loop .inv .1 .1, c .before .before .before .pre)
 
--- src/design.rt:140:9
 add-i : tie.Need-add-i Inv-loop μ-loop
-add-i c = ?
+add-i c = omega arith
 
--- src/design.rt:138:5
 loop-less : tie.Need-loop-less Inv-loop μ-loop
-loop-less c = ?
+loop-less c = omega (arith, c .before .before .loop .inv)
 
--- src/design.rt:138:5
 loop-again : tie.Need-loop-again Inv-loop μ-loop
-loop-again c = ?
+loop-again c =
+    let l = c .before .before .loop in
+    let a = c .before .before .before .args in
+    let h : l .i < length (a .from .now) = omega arith in
+    (omega arith, copy-turn (a .from .now) (a .to .now) (l .to) (l .i) h (omega (arith, c .before .before .before .pre)) (l .inv .1))
 
--- src/design.rt:133:1
 same-length : tie.Need-same-length Inv-loop μ-loop
-same-length c = ?
+same-length c = c .before .loop .inv .1 .1
 
--- src/design.rt:133:1
 returns : tie.Need-returns Inv-loop μ-loop
-returns c = ?
+returns c =
+    let l = c .before .loop in
+    let s = c .before .before in
+    copy-done (s .args .from .now) (s .args .to .now) (l .to) (l .i) (omega (arith, c .loop-test .left)) (s .pre) (l .inv .1)
 
 pub copy-spec : {M : Type 1} → statement M
 copy-spec =

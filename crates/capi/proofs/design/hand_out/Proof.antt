@@ -1,54 +1,50 @@
+-- `capi::design::hand_out` meets its contract. Assumes nothing.
+use mathlib.Core.Path.{_≡_, sym, _∙_}
+use mathlib.Core.Bool.{true}
+use borrow.Author.Tests.{not-true, not-false}
+use Rattle.designs.specs.View.{designView}
+use Rattle.capi.specs.Layout.{cascadePlaces}
+use Rattle.capi.proofs.Laws.{places-lengths, design-unfit, design-left, design-went}
 use borrow.Author.Needs.{needs}
 use Rattle.capi.proofs.design.hand_out.Statement.{statement}
 use Rattle.capi.proofs.design.hand_out.Tie as tie
-use Rattle.capi.proofs.design.hand_out.Reads as reads
-use Rattle.capi.proofs.design.hand_out.Lts as lts
-use Rattle.capi.proofs.layout.has_places.Reads as has-places-reads
-use Rattle.capi.proofs.layout.write.Reads as write-reads
 
--- src/design.rt:30:9
+places : (e : tie.Else1) → cascadePlaces (e .before .before .before .before .before .before .args .numbers .now) (e .before .before .before .before .before .before .args .counts .now) ≡ true
+places e = sym (e .before .has-places .ensures) ∙ not-false _ (e .if1 .left)
+
 has-places-requires : tie.Need-has-places-requires
 has-places-requires c κs = search needs
 
--- src/design.rt:31:9
 same-length : tie.Need-same-length
 same-length c = search needs
 
--- src/design.rt:31:9
 same-length-2 : tie.Need-same-length-2
 same-length-2 c = search needs
 
--- src/design.rt:31:9
 returns : tie.Need-returns
-returns c = ?
+returns c = design-unfit _ _ _ (sym (c .before .has-places .ensures) ∙ not-true _ (c .if1 .taken))
 
--- src/design.rt:35:9
 same-length-3 : tie.Need-same-length-3
 same-length-3 c = search needs
 
--- src/design.rt:35:9
 same-length-4 : tie.Need-same-length-4
 same-length-4 c = search needs
 
--- src/design.rt:35:9
 returns-2 : tie.Need-returns-2
-returns-2 c = ?
+returns-2 c = design-left (designView (c .before .before .before .before .before .before .before .args .d)) _ _ (places (c .before)) (c .if2 .taken)
 
--- src/design.rt:37:5
 write-requires : tie.Need-write-requires
-write-requires c κs = ?
+write-requires c κs = places-lengths _ _ (places (c .before .before .before))
 
--- src/design.rt:26:1
 same-length-5 : tie.Need-same-length-5
 same-length-5 c = search needs
 
--- src/design.rt:26:1
 same-length-6 : tie.Need-same-length-6
 same-length-6 c = search needs
 
--- src/design.rt:26:1
 returns-3 : tie.Need-returns-3
-returns-3 c = ?
+returns-3 c = let w = c .before .before .before .before .write .ensures in
+    design-went (designView (c .before .before .before .before .before .before .before .before .before .before .before .before .before .before .args .d)) _ _ (places (c .before .before .before .before .before .before .before .before)) (c .before .before .before .before .before .before .before .if2 .left) (w .0) (w .1)
 
 pub hand-out-spec : {M : Type 1} → statement M
 hand-out-spec =

@@ -1,19 +1,20 @@
+-- `capi::design::has_tap_places` meets its contract. Assumes nothing.
+use borrow.Author.Tests.{eq-eqb, ne-eqb}
+use Rattle.capi.specs.Calls.{tapsPlaces}
+use Rattle.capi.proofs.Laws.{taps-last}
 use Rattle.capi.proofs.design.has_tap_places.Statement.{statement}
 use Rattle.capi.proofs.design.has_tap_places.Tie as tie
-use Rattle.capi.proofs.design.has_tap_places.Reads as reads
-use Rattle.capi.proofs.design.has_tap_places.Lts as lts
 
--- src/design.rt:124:9
 returns : tie.Need-returns
-returns c = ?
+unfolding tapsPlaces
+returns c = simp (ne-eqb _ _ (c .if1 .taken))
 
--- src/design.rt:127:9
 returns-2 : tie.Need-returns-2
-returns-2 c = ?
+unfolding tapsPlaces
+returns-2 c = simp (eq-eqb _ _ (c .before .if1 .left), ne-eqb _ _ (c .if2 .taken))
 
--- src/design.rt:120:1
 returns-3 : tie.Need-returns-3
-returns-3 c = ?
+returns-3 c = taps-last _ _ _ (c .before .if1 .left) (c .if2 .left)
 
 pub has-tap-places-spec : {M : Type 1} → statement M
 has-tap-places-spec = tie.close (tie.spec returns returns-2 returns-3)

@@ -1,30 +1,22 @@
+-- `capi::design::pulse_design_chebyshev1_lp` meets its contract. Assumes nothing.
 use borrow.Author.Needs.{needs}
 use Rattle.capi.proofs.design.pulse_design_chebyshev1_lp.Statement.{statement}
 use Rattle.capi.proofs.design.pulse_design_chebyshev1_lp.Tie as tie
-use Rattle.capi.proofs.design.pulse_design_chebyshev1_lp.Reads as reads
-use Rattle.capi.proofs.design.pulse_design_chebyshev1_lp.Lts as lts
-use Rattle.capi.proofs.design.hand_out.Reads as hand-out-reads
-use Rattle.designs.proofs.design_chebyshev1_lp.Reads as design-chebyshev1-lp-reads
 
--- src/design.rt:100:14
 design-chebyshev1-lp-requires : tie.Need-design-chebyshev1-lp-requires
 design-chebyshev1-lp-requires c κs = search needs
 
--- src/design.rt:100:5
 hand-out-requires : tie.Need-hand-out-requires
 hand-out-requires c κs = search needs
 
--- src/design.rt:88:1
 same-length : tie.Need-same-length
 same-length c = search needs
 
--- src/design.rt:88:1
 same-length-2 : tie.Need-same-length-2
 same-length-2 c = search needs
 
--- src/design.rt:88:1
 returns : tie.Need-returns
-returns c = ?
+returns c = rw (← c .before .before .before .before .before .before .before .design-chebyshev1-lp .ensures) (c .before .before .before .before .hand-out .ensures)
 
 pub pulse-design-chebyshev1-lp-spec : {M : Type 1} → statement M
 pulse-design-chebyshev1-lp-spec =

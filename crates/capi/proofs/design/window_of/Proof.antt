@@ -1,23 +1,19 @@
+-- `capi::design::window_of` meets its contract. Assumes nothing.
+use borrow.Author.Tests.{ne-eqb}
 use Rattle.capi.proofs.design.window_of.Statement.{statement}
 use Rattle.capi.proofs.design.window_of.Tie as tie
-use Rattle.capi.proofs.design.window_of.Reads as reads
-use Rattle.capi.proofs.design.window_of.Lts as lts
 
--- src/design.rt:167:1
 returns : tie.Need-returns
-returns c = ?
+returns c = rw (c .match .keys1)
 
--- src/design.rt:167:1
 returns-2 : tie.Need-returns-2
-returns-2 c = ?
+returns-2 c = rw (c .match .keys2)
 
--- src/design.rt:167:1
 returns-3 : tie.Need-returns-3
-returns-3 c = ?
+returns-3 c = rw (c .match .keys3)
 
--- src/design.rt:167:1
 returns-4 : tie.Need-returns-4
-returns-4 c = ?
+returns-4 c = let r = c .match .rest in rw (ne-eqb _ 0 (r .0 .0 .1), ne-eqb _ 1 (r .0 .1), ne-eqb _ 2 (r .1))
 
 pub window-of-spec : {M : Type 1} → statement M
 window-of-spec = tie.close (tie.spec returns returns-2 returns-3 returns-4)

@@ -1,33 +1,39 @@
+-- `capi::layout::fits` meets its contract. Assumes nothing.
+use mathlib.Core.Path.{_≡_, sym, _∙_}
+use mathlib.Core.Bool.{true}
+use native.Mathlib.Omega.{arith}
+use lib.ListN.{length}
+use borrow.Author.Tests.{not-true, not-false, lt-leb, le-leb}
+use Rattle.capi.specs.Layout.{cascadePlaces, cascadeFits}
+use Rattle.capi.proofs.Laws.{places-lengths, fits-flagged, fits-last}
 use borrow.Author.Needs.{needs}
 use Rattle.capi.proofs.layout.fits.Statement.{statement}
 use Rattle.capi.proofs.layout.fits.Tie as tie
-use Rattle.capi.proofs.layout.fits.Reads as reads
-use Rattle.capi.proofs.layout.fits.Lts as lts
-use Rattle.capi.proofs.layout.has_places.Reads as has-places-reads
 
--- src/layout.rt:33:9
 has-places-requires : tie.Need-has-places-requires
 has-places-requires c κs = search needs
 
--- src/layout.rt:34:9
 returns : tie.Need-returns
-returns c = ?
+unfolding cascadeFits
+returns c = simp (sym (c .before .has-places .ensures) ∙ not-true _ (c .if1 .taken))
 
--- src/layout.rt:36:8
+places : (e : tie.Else1) → cascadePlaces (e .before .before .before .before .args .numbers .now) (e .before .before .before .before .args .counts .now) ≡ true
+places e = sym (e .before .has-places .ensures) ∙ not-false _ (e .if1 .left)
+
+three : (e : tie.Else1) → length (e .before .before .before .before .args .counts .now) ≡ 3
+three e = places-lengths _ _ (places e) .1
+
 shared-slice-read-if2 : tie.Need-shared-slice-read-if2
-shared-slice-read-if2 c = ?
+shared-slice-read-if2 c = omega (arith, three (c .before))
 
--- src/layout.rt:37:9
 returns-2 : tie.Need-returns-2
-returns-2 c = ?
+returns-2 c = fits-flagged _ _ (places (c .before .before)) (lt-leb _ _ (c .if2 .taken))
 
--- src/layout.rt:39:5
 shared-slice-read-result : tie.Need-shared-slice-read-result
-shared-slice-read-result c = ?
+shared-slice-read-result c = omega (arith, three (c .before .before .before))
 
--- src/layout.rt:30:1
 returns-3 : tie.Need-returns-3
-returns-3 c = ?
+returns-3 c = fits-last _ _ (places (c .before .before .before)) (le-leb _ _ (c .before .if2 .left))
 
 pub fits-spec : {M : Type 1} → statement M
 fits-spec =

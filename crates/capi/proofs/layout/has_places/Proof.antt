@@ -1,15 +1,16 @@
+-- `capi::layout::has_places` meets its contract. Assumes nothing.
+use borrow.Author.Tests.{eq-eqb, ne-eqb}
+use Rattle.capi.specs.Layout.{cascadePlaces}
 use Rattle.capi.proofs.layout.has_places.Statement.{statement}
 use Rattle.capi.proofs.layout.has_places.Tie as tie
-use Rattle.capi.proofs.layout.has_places.Reads as reads
-use Rattle.capi.proofs.layout.has_places.Lts as lts
 
--- src/layout.rt:24:9
 returns : tie.Need-returns
-returns c = ?
+unfolding cascadePlaces
+returns c = simp (ne-eqb _ _ (c .if1 .taken))
 
--- src/layout.rt:20:1
 returns-2 : tie.Need-returns-2
-returns-2 c = ?
+unfolding cascadePlaces
+returns-2 c = simp (eq-eqb _ _ (c .if1 .left))
 
 pub has-places-spec : {M : Type 1} → statement M
 has-places-spec = tie.close (tie.spec returns returns-2)

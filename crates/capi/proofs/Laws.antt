@@ -1,0 +1,225 @@
+-- What a call shows where it returns, for either kind of record. Assumes nothing.
+use mathlib.Core.Path.{_≡_, refl, sym, ap, _∙_}
+use mathlib.Core.Bool.{Bool, true, false, _&&_}
+use mathlib.Core.List.{List, [], _∷_}
+use Prim.Native.Nat.{ℕ}
+use lib.Dec.{eqb, leb}
+use lib.ListN.{length, getD, set}
+use lib.Ieee.{Float, binary64}
+use borrow.Author.Tests.{eq-eqb, ne-eqb, eqb-true}
+use Rattle.runs.specs.Refusals.{Accepted, BadCall}
+use Rattle.runs.specs.Runs.{Filter, Answer, Step, Reset, Block, numberOf, isClouded, refusalOf, step, reset, block}
+use Rattle.runs.specs.Lent.{lentStep, lentReset, lentBlock}
+use Rattle.runs.proofs.Lent.{lent-step, lent-reset, lent-block, unfit-step, unfit-reset, unfit-block, step-keeps, reset-keeps, block-keeps}
+use Rattle.taps.specs.Fir.{TapsRecord, Made, fir}
+use Rattle.taps.specs.Lent.{capacity, lentTaps, fits}
+use Rattle.designs.specs.Design.{DesignRecord}
+use Rattle.capi.specs.Layout.{Kind, flag, cascadePlaces, cascadeFits, cascadeNumbers, cascadeCounts, tapsCounts, tapsAt, tapsFit, firKind}
+use Rattle.capi.specs.Calls.{Call, Kept, TapsKept, recordOf, fitting, left, stepCall, blockCall, resetCall, kept, designCall, tapsLeft, tapsPlaces, madeCall}
+use Rattle.capi.proofs.Places.{both, set-middle}
+
+-- ---- the tests of lengths
+pub places-lengths : (ns : List Float) (cs : List ℕ) → cascadePlaces ns cs ≡ true → (length ns ≡ 32) × (length cs ≡ 3)
+unfolding cascadePlaces
+places-lengths ns cs h = let p = both (eqb (length ns) 32) (eqb (length cs) 3) h in (eqb-true (length ns) 32 (p .0), eqb-true (length cs) 3 (p .1))
+
+pub fits-lengths : (ns : List Float) (cs : List ℕ) → cascadeFits ns cs ≡ true → (length ns ≡ 32) × (length cs ≡ 3)
+unfolding cascadeFits
+fits-lengths ns cs h = places-lengths ns cs (both (cascadePlaces ns cs) _ h .0)
+
+-- a flag that is neither 0 nor 1, and the last flag
+pub fits-flagged : (ns : List Float) (cs : List ℕ) → cascadePlaces ns cs ≡ true → leb (getD cs 1 0) 1 ≡ false → false ≡ cascadeFits ns cs
+unfolding cascadeFits
+fits-flagged ns cs h k = rw (h, k)
+
+pub fits-last : (ns : List Float) (cs : List ℕ) → cascadePlaces ns cs ≡ true → leb (getD cs 1 0) 1 ≡ true → leb (getD cs 2 0) 1 ≡ cascadeFits ns cs
+unfolding cascadeFits
+fits-last ns cs h k = rw (h, k)
+
+-- slices of a tap record
+pub taps-last : (ts ss : List Float) (cs : List ℕ) → length ts ≡ capacity → length ss ≡ capacity → eqb (length cs) 3 ≡ tapsPlaces ts ss cs
+unfolding tapsPlaces
+taps-last ts ss cs h k = rw (eq-eqb (length ts) capacity h, eq-eqb (length ss) capacity k)
+
+pub taps-lengths : (ts ss : List Float) (cs : List ℕ) → tapsPlaces ts ss cs ≡ true → (length ts ≡ capacity) × (length ss ≡ capacity) × (length cs ≡ 3)
+unfolding tapsPlaces
+taps-lengths ts ss cs h =
+    let p = both (eqb (length ts) capacity) (eqb (length ss) capacity && eqb (length cs) 3) h in
+    let q = both (eqb (length ss) capacity) (eqb (length cs) 3) (p .1) in
+    (eqb-true (length ts) capacity (p .0), eqb-true (length ss) capacity (q .0), eqb-true (length cs) 3 (q .1))
+
+pub single-lengths : (answer : List Float) (tally : List ℕ) → (eqb (length answer) 1 && eqb (length tally) 1) ≡ true → (length answer ≡ 1) × (length tally ≡ 1)
+single-lengths answer tally h = let p = both (eqb (length answer) 1) (eqb (length tally) 1) h in (eqb-true (length answer) 1 (p .0), eqb-true (length tally) 1 (p .1))
+
+module _ (K : Kind) (ns : List Float) (cs : List ℕ) where
+  -- ---- slices that fit
+  module _ {s : K .filter .State} (fit : K .fit ns cs ≡ true) (e : s ≡ recordOf K ns cs) where
+    pub lend-step : (x : Float) {r : Step (K .filter .State)} → r ≡ step (K .filter) s x → r ≡ lentStep (K .filter) (fitting K ns cs) (recordOf K ns cs) x
+    lend-step x p = p ∙ ap (λ (z : K .filter .State). step (K .filter) z x) e ∙ sym (lent-step (K .filter) (fitting K ns cs) (recordOf K ns cs) x fit)
+
+    pub lend-reset : {r : Reset (K .filter .State)} → r ≡ reset (K .filter) s → r ≡ lentReset (K .filter) (fitting K ns cs) (recordOf K ns cs)
+    lend-reset p = p ∙ ap (reset (K .filter)) e ∙ sym (lent-reset (K .filter) (fitting K ns cs) (recordOf K ns cs) fit)
+
+    pub lend-block : (input output : List Float) {r : Block (K .filter .State)} → r ≡ block (K .filter) s input output
+        → r ≡ lentBlock (K .filter) (fitting K ns cs) (recordOf K ns cs) input output
+    lend-block input output p = p ∙ ap (λ (z : K .filter .State). block (K .filter) z input output) e ∙ sym (lent-block (K .filter) (fitting K ns cs) (recordOf K ns cs) input output fit)
+
+  -- ---- a step
+  module _ (x : Float) (answer : List Float) (tally : List ℕ) where
+    pub step-not-single : (eqb (length answer) 1 && eqb (length tally) 1) ≡ false → left K ns cs answer tally BadCall ≡ stepCall K ns cs x answer tally
+    unfolding stepCall
+    step-not-single h = rw h
+
+    pub step-unfit : (eqb (length answer) 1 && eqb (length tally) 1) ≡ true → K .fit ns cs ≡ false → left K ns cs answer tally BadCall ≡ stepCall K ns cs x answer tally
+    unfolding stepCall
+    step-unfit h k = rw (h, unfit-step (K .filter) (fitting K ns cs) (recordOf K ns cs) x k)
+
+    pub step-left : {a : Answer} {s : K .filter .State} {n : ℕ} → (eqb (length answer) 1 && eqb (length tally) 1) ≡ true
+        → _≡_ {A = Step (K .filter .State)} (record { answer = a; state = s }) (lentStep (K .filter) (fitting K ns cs) (recordOf K ns cs) x) → n ≡ refusalOf a → (n ≡ 0 → ⊥)
+        → left K ns cs answer tally n ≡ stepCall K ns cs x answer tally
+    unfolding stepCall
+    step-left {a} {s} {n} h e g k = rw (h, ← e, ← g, ne-eqb n 0 k)
+
+    pub step-went : {a : Answer} {s : K .filter .State} {n : ℕ} {ns′ ys : List Float} {cs′ tally′ : List ℕ} → (eqb (length answer) 1 && eqb (length tally) 1) ≡ true
+        → _≡_ {A = Step (K .filter .State)} (record { answer = a; state = s }) (lentStep (K .filter) (fitting K ns cs) (recordOf K ns cs) x) → n ≡ refusalOf a → n ≡ 0
+        → ns′ ≡ K .numbers s → cs′ ≡ K .counts s → ys ≡ numberOf a ∷ [] → tally′ ≡ flag (isClouded a) ∷ []
+        → _≡_ {A = Call} (record { refusal = Accepted; numbers = ns′; counts = cs′; answers = ys; clouded = tally′ }) (stepCall K ns cs x answer tally)
+    unfolding stepCall
+    step-went {a} {s} {n} h e g k en ec ey et = rw (h, ← e, eq-eqb (refusalOf a) 0 (sym g ∙ k), en, ec, ey, et)
+
+  -- ---- a block
+  module _ (input output : List Float) (tally : List ℕ) where
+    pub block-not-single : (length tally ≡ 1 → ⊥) → left K ns cs output tally BadCall ≡ blockCall K ns cs input output tally
+    unfolding blockCall
+    block-not-single h = rw (ne-eqb (length tally) 1 h)
+
+    pub block-unfit : length tally ≡ 1 → K .fit ns cs ≡ false → left K ns cs output tally BadCall ≡ blockCall K ns cs input output tally
+    unfolding blockCall
+    block-unfit h k = rw (eq-eqb (length tally) 1 h, unfit-block (K .filter) (fitting K ns cs) (recordOf K ns cs) input output k)
+
+    pub block-left : {n c : ℕ} {s : K .filter .State} {o : List Float} → length tally ≡ 1
+        → _≡_ {A = Block (K .filter .State)} (record { refusal = n; clouded = c; state = s; output = o }) (lentBlock (K .filter) (fitting K ns cs) (recordOf K ns cs) input output) → (n ≡ 0 → ⊥)
+        → left K ns cs o tally n ≡ blockCall K ns cs input output tally
+    unfolding blockCall
+    block-left {n} h e k = rw (eq-eqb (length tally) 1 h, ← e, ne-eqb n 0 k, block-keeps (K .filter) (fitting K ns cs) (recordOf K ns cs) input output e k .1)
+
+    pub block-went : {n c : ℕ} {s : K .filter .State} {o ns′ : List Float} {cs′ tally′ : List ℕ} → length tally ≡ 1
+        → _≡_ {A = Block (K .filter .State)} (record { refusal = n; clouded = c; state = s; output = o }) (lentBlock (K .filter) (fitting K ns cs) (recordOf K ns cs) input output) → n ≡ 0
+        → ns′ ≡ K .numbers s → cs′ ≡ K .counts s → tally′ ≡ c ∷ []
+        → _≡_ {A = Call} (record { refusal = Accepted; numbers = ns′; counts = cs′; answers = o; clouded = tally′ }) (blockCall K ns cs input output tally)
+    unfolding blockCall
+    block-went {n} h e k en ec et = rw (eq-eqb (length tally) 1 h, ← e, eq-eqb n 0 k, en, ec, et)
+
+  -- ---- a reset
+  pub reset-unfit : K .fit ns cs ≡ false → kept ns cs BadCall ≡ resetCall K ns cs
+  unfolding resetCall
+  reset-unfit k = rw (unfit-reset (K .filter) (fitting K ns cs) (recordOf K ns cs) k)
+
+  pub reset-left : {n : ℕ} {s : K .filter .State} → _≡_ {A = Reset (K .filter .State)} (record { refusal = n; state = s }) (lentReset (K .filter) (fitting K ns cs) (recordOf K ns cs)) → (n ≡ 0 → ⊥)
+      → kept ns cs n ≡ resetCall K ns cs
+  unfolding resetCall
+  reset-left {n} e k = rw (← e, ne-eqb n 0 k)
+
+  pub reset-went : {n : ℕ} {s : K .filter .State} {ns′ : List Float} {cs′ : List ℕ}
+      → _≡_ {A = Reset (K .filter .State)} (record { refusal = n; state = s }) (lentReset (K .filter) (fitting K ns cs) (recordOf K ns cs)) → n ≡ 0 → ns′ ≡ K .numbers s → cs′ ≡ K .counts s
+      → _≡_ {A = Kept} (record { refusal = Accepted; numbers = ns′; counts = cs′ }) (resetCall K ns cs)
+  unfolding resetCall
+  reset-went {n} e k en ec = rw (← e, eq-eqb n 0 k, en, ec)
+
+-- ---- designs
+module _ (d : DesignRecord) (ns : List Float) (cs : List ℕ) where
+  pub design-unfit : cascadePlaces ns cs ≡ false → kept ns cs BadCall ≡ designCall d ns cs
+  unfolding designCall
+  design-unfit h = rw h
+
+  pub design-left : cascadePlaces ns cs ≡ true → (d .refusal ≡ 0 → ⊥) → kept ns cs (d .refusal) ≡ designCall d ns cs
+  unfolding designCall
+  design-left h k = rw (h, ne-eqb (d .refusal) 0 k)
+
+  pub design-went : {ns′ : List Float} {cs′ : List ℕ} → cascadePlaces ns cs ≡ true → d .refusal ≡ 0 → ns′ ≡ cascadeNumbers (d .cascade) → cs′ ≡ cascadeCounts (d .cascade)
+      → _≡_ {A = Kept} (record { refusal = Accepted; numbers = ns′; counts = cs′ }) (designCall d ns cs)
+  unfolding designCall
+  design-went h k en ec = rw (h, eq-eqb (d .refusal) 0 k, en, ec)
+
+module _ (m : Made) (ts ss : List Float) (cs : List ℕ) where
+  pub made-unfit : tapsPlaces ts ss cs ≡ false → tapsLeft ts ss cs BadCall ≡ madeCall ts ss cs m
+  unfolding madeCall
+  made-unfit h = rw h
+
+  pub made-left : tapsPlaces ts ss cs ≡ true → (m .refusal ≡ 0 → ⊥) → tapsLeft ts ss cs (m .refusal) ≡ madeCall ts ss cs m
+  unfolding madeCall
+  made-left h k = rw (h, ne-eqb (m .refusal) 0 k)
+
+  pub made-went : {ts′ ss′ : List Float} {cs′ : List ℕ} → tapsPlaces ts ss cs ≡ true → m .refusal ≡ 0 → ts′ ≡ m .filter .taps → ss′ ≡ m .filter .samples → cs′ ≡ tapsCounts (m .filter)
+      → _≡_ {A = TapsKept} (record { refusal = Accepted; taps = ts′; samples = ss′; counts = cs′ }) (madeCall ts ss cs m)
+  unfolding madeCall
+  made-went h k et es ec = rw (h, eq-eqb (m .refusal) 0 k, et, es, ec)
+
+-- ---- a tap record: its samples are changed where they stand
+module _ (ts ss : List Float) (cs : List ℕ) where
+  abbrev F : Filter
+  F = fir capacity binary64
+
+  abbrev before : TapsRecord
+  before = lentTaps ts ss (getD cs 0 0) (getD cs 1 0) (getD cs 2 0)
+
+  -- by the samples and the held count
+  abbrev with : List Float → ℕ → TapsRecord
+  with ss′ h = lentTaps ts ss′ (getD cs 0 0) h (getD cs 2 0)
+
+  pub uncounted : (length cs ≡ 3 → ⊥) → tapsFit ts ss cs ≡ false
+  unfolding tapsFit
+  uncounted h = rw (ne-eqb (length cs) 3 h)
+
+  module _ (three : length cs ≡ 3) where
+    counted : tapsFit ts ss cs ≡ fits capacity before
+    unfolding tapsFit tapsAt
+    counted = rw (eq-eqb (length cs) 3 three)
+
+    counts-set : (ss′ : List Float) (h : ℕ) → set cs 1 h ≡ tapsCounts (with ss′ h)
+    unfolding tapsCounts
+    counts-set ss′ h = set-middle cs h three
+
+    fir-lent-step : (x : Float) → lentStep F (fits capacity) before x ≡ lentStep F (fitting (firKind ts) ss cs) (recordOf (firKind ts) ss cs) x
+    unfolding lentStep tapsAt
+    fir-lent-step x = rw counted
+
+    fir-lent-reset : lentReset F (fits capacity) before ≡ lentReset F (fitting (firKind ts) ss cs) (recordOf (firKind ts) ss cs)
+    unfolding lentReset tapsAt
+    fir-lent-reset = rw counted
+
+    fir-lent-block : (input output : List Float) → lentBlock F (fits capacity) before input output ≡ lentBlock F (fitting (firKind ts) ss cs) (recordOf (firKind ts) ss cs) input output
+    unfolding lentBlock tapsAt
+    fir-lent-block input output = rw counted
+
+    module _ (x : Float) (answer : List Float) (tally : List ℕ) (single : (eqb (length answer) 1 && eqb (length tally) 1) ≡ true) {a : Answer} {ss′ : List Float} {h n : ℕ}
+        (e : _≡_ {A = Step TapsRecord} (record { answer = a; state = with ss′ h }) (lentStep F (fits capacity) before x)) (g : n ≡ refusalOf a) where
+      pub fir-step-left : (n ≡ 0 → ⊥) → _≡_ {A = Call} (record { refusal = n; numbers = ss′; counts = cs; answers = answer; clouded = tally }) (stepCall (firKind ts) ss cs x answer tally)
+      fir-step-left k =
+          let same : ss′ ≡ ss = ap (λ (r : TapsRecord). r .samples) (step-keeps F (fits capacity) before x e (λ z. k (g ∙ z))) in
+          ap (λ (l : List Float). record { refusal = n; numbers = l; counts = cs; answers = answer; clouded = tally }) same ∙ step-left (firKind ts) ss cs x answer tally single (e ∙ fir-lent-step x) g k
+
+      pub fir-step-went : n ≡ 0 → {ys : List Float} {tally′ : List ℕ} → ys ≡ numberOf a ∷ [] → tally′ ≡ flag (isClouded a) ∷ []
+          → _≡_ {A = Call} (record { refusal = Accepted; numbers = ss′; counts = set cs 1 h; answers = ys; clouded = tally′ }) (stepCall (firKind ts) ss cs x answer tally)
+      fir-step-went k ey et = step-went (firKind ts) ss cs x answer tally single (e ∙ fir-lent-step x) g k refl (counts-set ss′ h) ey et
+
+    module _ (input output : List Float) (tally : List ℕ) (single : length tally ≡ 1) {ss′ o : List Float} {n d h : ℕ}
+        (e : _≡_ {A = Block TapsRecord} (record { refusal = n; clouded = d; state = with ss′ h; output = o }) (lentBlock F (fits capacity) before input output)) where
+      pub fir-block-left : (n ≡ 0 → ⊥) → _≡_ {A = Call} (record { refusal = n; numbers = ss′; counts = cs; answers = o; clouded = tally }) (blockCall (firKind ts) ss cs input output tally)
+      fir-block-left k =
+          let same : ss′ ≡ ss = ap (λ (r : TapsRecord). r .samples) (block-keeps F (fits capacity) before input output e k .0) in
+          ap (λ (l : List Float). record { refusal = n; numbers = l; counts = cs; answers = o; clouded = tally }) same
+          ∙ block-left (firKind ts) ss cs input output tally single (e ∙ fir-lent-block input output) k
+
+      pub fir-block-went : n ≡ 0 → {tally′ : List ℕ} → tally′ ≡ d ∷ []
+          → _≡_ {A = Call} (record { refusal = Accepted; numbers = ss′; counts = set cs 1 h; answers = o; clouded = tally′ }) (blockCall (firKind ts) ss cs input output tally)
+      fir-block-went k et = block-went (firKind ts) ss cs input output tally single (e ∙ fir-lent-block input output) k refl (counts-set ss′ h) et
+
+    module _ {ss′ : List Float} {n h : ℕ} (e : _≡_ {A = Reset TapsRecord} (record { refusal = n; state = with ss′ h }) (lentReset F (fits capacity) before)) where
+      pub fir-reset-left : (n ≡ 0 → ⊥) → kept ss′ cs n ≡ resetCall (firKind ts) ss cs
+      fir-reset-left k =
+          let same : ss′ ≡ ss = ap (λ (r : TapsRecord). r .samples) (reset-keeps F (fits capacity) before e k) in
+          ap (λ (l : List Float). kept l cs n) same ∙ reset-left (firKind ts) ss cs (e ∙ fir-lent-reset) k
+
+      pub fir-reset-went : n ≡ 0 → kept ss′ (set cs 1 h) Accepted ≡ resetCall (firKind ts) ss cs
+      fir-reset-went k = reset-went (firKind ts) ss cs (e ∙ fir-lent-reset) k refl (counts-set ss′ h)

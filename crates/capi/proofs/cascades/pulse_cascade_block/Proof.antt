@@ -1,0 +1,115 @@
+-- `capi::cascades::pulse_cascade_block` meets its contract. Assumes nothing.
+use mathlib.Core.Path.{_≡_, sym, _∙_}
+use mathlib.Core.Bool.{true, _&&_}
+use lib.Dec.{eqb}
+use lib.ListN.{length}
+use borrow.Author.Tests.{not-true, not-false}
+use Rattle.runs.specs.Runs.{Block}
+use Rattle.runs.specs.Lent.{lentBlock}
+use Rattle.cascade.specs.View.{blockView}
+use Rattle.capi.specs.Layout.{cascadeFits, cascadeKind}
+use Rattle.capi.specs.Calls.{fitting, recordOf}
+use Rattle.capi.proofs.Places.{set-one}
+use Rattle.capi.proofs.Laws.{fits-lengths, block-not-single, block-unfit, lend-block, block-left, block-went}
+use borrow.Author.Needs.{needs}
+use Rattle.capi.proofs.cascades.pulse_cascade_block.Statement.{statement}
+use Rattle.capi.proofs.cascades.pulse_cascade_block.Tie as tie
+
+abbrev start : tie.Else1 → tie.Start
+start e = e .before .before .before .before .before .before
+
+abbrev else1 : tie.Else2 → tie.Else1
+else1 e = e .before .before .before .before
+
+fit : (e : tie.Else2) → cascadeFits (start (else1 e) .args .numbers .now) (start (else1 e) .args .counts .now) ≡ true
+fit e = sym (e .before .fits2 .ensures) ∙ not-false _ (e .if2 .left)
+
+abbrev else2 : tie.After-block → tie.Else2
+else2 r = r .before .before .before .before .before
+
+went : (r : tie.After-block) → let a = start (else1 (else2 r)) .args in
+    blockView (r .block .result) (r .block .last .1 .1 .0)
+    ≡ lentBlock (cascadeKind .filter) (fitting cascadeKind (a .numbers .now) (a .counts .now)) (recordOf cascadeKind (a .numbers .now) (a .counts .now)) (a .input .now) (a .output .now)
+went r = let a = start (else1 (else2 r)) .args in
+    lend-block cascadeKind (a .numbers .now) (a .counts .now) (fit (else2 r)) (r .before .before .read .ensures) (a .input .now) (a .output .now) (r .block .ensures)
+
+returns : tie.Need-returns
+returns c = block-not-single cascadeKind _ _ _ _ _ (c .if1 .taken)
+
+fits-requires : tie.Need-fits-requires
+fits-requires c κs = search needs
+
+same-length : tie.Need-same-length
+same-length c = search needs
+
+same-length-2 : tie.Need-same-length-2
+same-length-2 c = search needs
+
+returns-2 : tie.Need-returns-2
+returns-2 c = block-unfit cascadeKind _ _ _ _ _ (c .before .before .before .before .if1 .left) (sym (c .before .fits2 .ensures) ∙ not-true _ (c .if2 .taken))
+
+read-requires : tie.Need-read-requires
+read-requires c κs = fits-lengths _ _ (fit (c .before .before))
+
+block-requires : tie.Need-block-requires
+block-requires c κs = search needs
+
+same-length-3 : tie.Need-same-length-3
+same-length-3 c = search needs
+
+same-length-4 : tie.Need-same-length-4
+same-length-4 c = search needs
+
+same-length-5 : tie.Need-same-length-5
+same-length-5 c = search needs
+
+returns-3 : tie.Need-returns-3
+returns-3 c = let r = c .before .before .before in
+    block-left cascadeKind _ _ _ _ _ (else1 (else2 r) .if1 .left) (went r) (c .if3 .taken)
+
+write-requires : tie.Need-write-requires
+write-requires c κs = fits-lengths _ _ (fit (c .before .before .before .before .before .before .before .before .before .before))
+
+slice-write-clouded : tie.Need-slice-write-clouded
+slice-write-clouded c = search needs
+
+same-length-6 : tie.Need-same-length-6
+same-length-6 c = search needs
+
+same-length-7 : tie.Need-same-length-7
+same-length-7 c = search needs
+
+same-length-8 : tie.Need-same-length-8
+same-length-8 c = search needs
+
+same-length-9 : tie.Need-same-length-9
+same-length-9 c = search needs
+
+returns-4 : tie.Need-returns-4
+returns-4 c = let r = c .before .before .before .before .before .before .before .before .before .before in
+    let e = else1 (else2 r) in
+    let w = c .before .before .before .before .write .ensures in
+    block-went cascadeKind _ _ _ _ _ (e .if1 .left) (went r) (c .before .before .before .before .before .before .before .if3 .left) (w .0) (w .1) (set-one (start e .args .clouded .now) _ (e .if1 .left))
+
+pub pulse-cascade-block-spec : {M : Type 1} → statement M
+pulse-cascade-block-spec =
+    tie.close
+    (tie.spec
+    returns
+    fits-requires
+    same-length
+    same-length-2
+    returns-2
+    read-requires
+    block-requires
+    same-length-3
+    same-length-4
+    same-length-5
+    returns-3
+    write-requires
+    slice-write-clouded
+    same-length-6
+    same-length-7
+    same-length-8
+    same-length-9
+    returns-4)

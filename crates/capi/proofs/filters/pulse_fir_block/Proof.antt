@@ -1,0 +1,83 @@
+-- `capi::filters::pulse_fir_block` meets its contract. Assumes nothing.
+use Rattle.capi.specs.Layout.{firKind}
+use Rattle.capi.proofs.Places.{set-one}
+use Rattle.capi.proofs.Laws.{block-not-single, block-unfit, uncounted, fir-block-left, fir-block-went}
+use borrow.Author.Needs.{needs}
+use Rattle.capi.proofs.filters.pulse_fir_block.Statement.{statement}
+use Rattle.capi.proofs.filters.pulse_fir_block.Tie as tie
+
+abbrev start : tie.Else1 → tie.Start
+start e = e .before .before .before .before .before .before .before
+
+returns : tie.Need-returns
+returns c = block-not-single (firKind (c .before .before .before .before .before .before .before .args .taps .now)) _ _ _ _ _ (c .if1 .taken)
+
+returns-2 : tie.Need-returns-2
+returns-2 c = let a = start (c .before) .args in
+    block-unfit (firKind (a .taps .now)) (a .samples .now) (a .counts .now) _ _ _ (c .before .if1 .left) (uncounted (a .taps .now) (a .samples .now) (a .counts .now) (c .if2 .taken))
+
+slice-read-block : tie.Need-slice-read-block
+slice-read-block c = search needs
+
+slice-read-block-2 : tie.Need-slice-read-block-2
+slice-read-block-2 c = search needs
+
+slice-read-block-3 : tie.Need-slice-read-block-3
+slice-read-block-3 c = search needs
+
+block-requires : tie.Need-block-requires
+block-requires c κs = search needs
+
+same-length : tie.Need-same-length
+same-length c = search needs
+
+same-length-2 : tie.Need-same-length-2
+same-length-2 c = search needs
+
+returns-3 : tie.Need-returns-3
+returns-3 c = let a = start (c .before .before .before .before .before .before .before .before .before .before .before .before) .args in
+    fir-block-left (a .taps .now) (a .samples .now) (a .counts .now) (c .before .before .before .before .before .before .before .before .before .before .before .if2 .left) (a .input .now) (a .output .now) (a .clouded .now) (c .before .before .before .before .before .before .before .before .before .before .before .before .if1 .left) (c .before .before .before .before .before .block .ensures) (c .if3 .taken)
+
+slice-write-counts : tie.Need-slice-write-counts
+slice-write-counts c = search needs
+
+slice-write-clouded : tie.Need-slice-write-clouded
+slice-write-clouded c = search needs
+
+same-length-3 : tie.Need-same-length-3
+same-length-3 c = search needs
+
+same-length-4 : tie.Need-same-length-4
+same-length-4 c = search needs
+
+same-length-5 : tie.Need-same-length-5
+same-length-5 c = search needs
+
+same-length-6 : tie.Need-same-length-6
+same-length-6 c = search needs
+
+returns-4 : tie.Need-returns-4
+returns-4 c = let a = start (c .before .before .before .before .before .before .before .before .before .before .before .before) .args in
+    fir-block-went (a .taps .now) (a .samples .now) (a .counts .now) (c .before .before .before .before .before .before .before .before .before .before .before .if2 .left) (a .input .now) (a .output .now) (a .clouded .now) (c .before .before .before .before .before .before .before .before .before .before .before .before .if1 .left) (c .before .before .before .before .before .block .ensures) (c .if3 .left)
+    (set-one (a .clouded .now) _ (c .before .before .before .before .before .before .before .before .before .before .before .before .if1 .left))
+
+pub pulse-fir-block-spec : {M : Type 1} → statement M
+pulse-fir-block-spec =
+    tie.close
+    (tie.spec
+    returns
+    returns-2
+    slice-read-block
+    slice-read-block-2
+    slice-read-block-3
+    block-requires
+    same-length
+    same-length-2
+    returns-3
+    slice-write-counts
+    slice-write-clouded
+    same-length-3
+    same-length-4
+    same-length-5
+    same-length-6
+    returns-4)
