@@ -2,7 +2,8 @@
 // (archive.rs), and to the designs of the published Rust (published.rs) and a model of running and of refusals (model.rs),
 // beside which the published filters run. Returned numbers, counts and every place of every slice must agree: bits, a NaN
 // matching any NaN; after a refusal, and where a call may not write, the very bits. Stops at the first difference.
-// Usage: compare [CALLS [SEED]]. tests/capi/run builds it, and tries it on deliberately wrong archives (wrong.c).
+// Usage: compare [CALLS [SEED]]. tests/capi/run builds it as a library and links it with the archive, and once more with a
+// deliberately wrong one (wrong.c).
 mod archive;
 #[allow(dead_code)]
 mod cascades;
@@ -211,7 +212,7 @@ impl Session {
     }
 }
 
-fn main() {
+pub fn main() {
     let given: Vec<u64> = std::env::args().skip(1).map(|a| a.parse().expect("usage: compare [CALLS [SEED]]")).collect();
     let (calls, seed) = (given.first().copied().unwrap_or(300_000), given.get(1).copied().unwrap_or(1));
     let mut session = Session::new(seed);
