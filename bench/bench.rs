@@ -13,6 +13,7 @@ const BLOCK: usize = 256;
 const CUTOFF: f64 = 1000.0;
 const RATE: f64 = 10_000.0;
 const RIPPLE: f64 = 0.5;
+const LIBM: &str = "the Rust over f64 and the C library, other bits";
 const TAPS: [usize; 7] = [1, 2, 4, 8, 16, 32, 64];
 const LENGTHS: [usize; 6] = [1, 4, 16, 64, 256, 1024];
 
@@ -119,10 +120,14 @@ impl Bench {
     fn design_rows(&mut self) {
         let same = port::lowpass_designs(1, CUTOFF, RATE) == rust_ring::lowpass_bits(CUTOFF, RATE);
         let port = || drop(black_box(port::lowpass_designs(DESIGNS, black_box(CUTOFF), black_box(RATE))));
-        self.design_row("design, low pass of order 8 (ns a design)", same, port, || rust_ring::lowpass_designs(DESIGNS, CUTOFF, RATE));
+        let name = "design, low pass of order 8 (ns a design)";
+        self.design_row(name, same, port, || rust_ring::lowpass_designs(DESIGNS, CUTOFF, RATE));
+        self.design_row(&format!("{name}; {LIBM}"), same, port, || rust_ring::lowpass_designs_libm(DESIGNS, CUTOFF, RATE));
         let same = port::chebyshev1_designs(1, CUTOFF, RIPPLE, RATE) == rust_ring::chebyshev1_bits(CUTOFF, RIPPLE, RATE);
         let port = || drop(black_box(port::chebyshev1_designs(DESIGNS, black_box(CUTOFF), black_box(RIPPLE), black_box(RATE))));
-        self.design_row("design, Chebyshev I of order 8 (ns a design)", same, port, || rust_ring::chebyshev1_designs(DESIGNS, CUTOFF, RIPPLE, RATE));
+        let name = "design, Chebyshev I of order 8 (ns a design)";
+        self.design_row(name, same, port, || rust_ring::chebyshev1_designs(DESIGNS, CUTOFF, RIPPLE, RATE));
+        self.design_row(&format!("{name}; {LIBM}"), same, port, || rust_ring::chebyshev1_designs_libm(DESIGNS, CUTOFF, RIPPLE, RATE));
     }
 
     fn by_taps(&mut self) {

@@ -90,3 +90,15 @@ pub fn chebyshev1_designs(count: usize, cutoff: f64, decibels: f64, rate: f64) {
 pub fn chebyshev1_bits(cutoff: f64, decibels: f64, rate: f64) -> Vec<u64> {
     bits(&design_chebyshev1_lp::<Port, 8>(Port(cutoff), Port(decibels), Port(rate)).unwrap())
 }
+
+/// The same designs over f64 as the published scalar.rs has it, with the C library's elementary functions: other bits.
+pub fn lowpass_designs_libm(count: usize, cutoff: f64, rate: f64) {
+    for _ in 0..count {
+        black_box(design_butterworth_lp::<f64, 8>(black_box(cutoff), black_box(rate)).unwrap());
+    }
+}
+pub fn chebyshev1_designs_libm(count: usize, cutoff: f64, decibels: f64, rate: f64) {
+    for _ in 0..count {
+        black_box(design_chebyshev1_lp::<f64, 8>(black_box(cutoff), black_box(decibels), black_box(rate)).unwrap());
+    }
+}

@@ -59,7 +59,9 @@ const COSINE: [f64; 8] = alternating(2);
 const EXPONENTIAL: [f64; 14] = exponential();
 const LOGARITHM: [f64; 11] = logarithm();
 
-/// q modulo 4, S and C; nothing for an angle that is not finite or above 128.
+/// q modulo 4, S and C; nothing for an angle that is not finite or above 128. Never inlined, nor exp and ln, so that the
+/// compiler does not work out a design's constant angles beforehand and bench/ measures the functions.
+#[inline(never)]
 fn turn(x: f64) -> Option<(i64, f64, f64)> {
     if !(x.abs() <= 128.0) {
         return None;
@@ -96,6 +98,7 @@ pub fn tan(x: f64) -> f64 {
     sin(x) / cos(x)
 }
 
+#[inline(never)]
 pub fn exp(x: f64) -> f64 {
     if x > 709.0 {
         return f64::INFINITY;
@@ -115,6 +118,7 @@ pub fn pow10(y: f64) -> f64 {
     exp(y * b(0x40026BB1BBB55516))
 }
 
+#[inline(never)]
 pub fn ln(x: f64) -> f64 {
     if x.is_nan() || x < 0.0 {
         return f64::NAN;
