@@ -11,8 +11,9 @@
  * Refusals. Each function returns 0, or the number that refuses the call. After a refusal every slice is as it was before
  * the call, bit for bit. No other number is returned, and none but where a function below names it.
  *
- * Numbers. double is IEEE 754 binary64, rounded to nearest, ties to even. Every answer is fixed bit by bit, but for the bits
- * of a NaN: where a NaN is answered, it may be any NaN. */
+ * Numbers. double is IEEE 754 binary64. The processor's modes are those that a program starts with: rounding to nearest, ties
+ * to even, and subnormal numbers kept. Every answer is then fixed bit by bit, but for the bits of a NaN: where a NaN is
+ * answered, it may be any NaN. */
 #ifndef PULSE_H
 #define PULSE_H
 

@@ -23,25 +23,28 @@ const GUARDS: usize = 8;
 /// A slice with guard places before and behind it.
 struct Guarded<T> {
     places: Vec<T>,
+    front: usize,
     guard: T,
 }
 
 impl<T: Copy + PartialEq> Guarded<T> {
-    fn new(slice: &[T], guard: T) -> Guarded<T> {
-        let mut places = vec![guard; GUARDS];
+    /// `shift` more places in front, so that slices start at any multiple of eight bytes.
+    fn new(slice: &[T], shift: usize, guard: T) -> Guarded<T> {
+        let front = GUARDS + shift;
+        let mut places = vec![guard; front];
         places.extend_from_slice(slice);
         places.extend_from_slice(&[guard; GUARDS]);
-        Guarded { places, guard }
+        Guarded { places, front, guard }
     }
     fn start(&mut self) -> *mut T {
-        self.places[GUARDS..].as_mut_ptr()
+        self.places[self.front..].as_mut_ptr()
     }
     fn len(&self) -> usize {
-        self.places.len() - 2 * GUARDS
+        self.places.len() - self.front - GUARDS
     }
     /// Puts the slice back; false where a guard place was written.
     fn back(self, slice: &mut [T]) -> bool {
-        let (front, rest) = self.places.split_at(GUARDS);
+        let (front, rest) = self.places.split_at(self.front);
         let (middle, behind) = rest.split_at(slice.len());
         slice.copy_from_slice(middle);
         front.iter().chain(behind).all(|g| *g == self.guard)
@@ -54,9 +57,9 @@ struct Lent {
 }
 
 impl Lent {
-    fn new(s: &Slices) -> Lent {
-        let floats = [&s.numbers, &s.taps, &s.samples, &s.input, &s.output, &s.answer].map(|f| Guarded::new(f, 123.456));
-        let wholes = [&s.counts, &s.fir_counts, &s.clouded].map(|w| Guarded::new(w, 123_456));
+    fn new(s: &Slices, shift: usize) -> Lent {
+        let floats = [&s.numbers, &s.taps, &s.samples, &s.input, &s.output, &s.answer].map(|f| Guarded::new(f, shift, 123.456));
+        let wholes = [&s.counts, &s.fir_counts, &s.clouded].map(|w| Guarded::new(w, shift, 123_456));
         Lent { floats, wholes }
     }
     fn back(self, s: &mut Slices) -> bool {
@@ -72,8 +75,8 @@ impl Lent {
 }
 
 /// What the archive returns, and whether it stayed within the slices.
-pub fn call(call: &Call, slices: &mut Slices) -> (u8, bool) {
-    let mut lent = Lent::new(slices);
+pub fn call(call: &Call, slices: &mut Slices, shift: usize) -> (u8, bool) {
+    let mut lent = Lent::new(slices, shift);
     let number = if call.function.is_cascade() { cascade(call, &mut lent) } else { fir(call, &mut lent) };
     (number, lent.back(slices))
 }

@@ -16,6 +16,7 @@ enum wrong {
     BLOCK_WRITES_BEHIND,    /* a block writes one place behind its answers */
     BLOCK_REFUSED_COUNTS,   /* a refused block makes the count 0 */
     BLOCK_SHORT_FIRST,      /* 5 before 11 */
+    BLANK_PASSES,           /* a cascade without parts answers the sample itself */
     RESET_KEEPS_CLOUD,
     RESET_TAKES_BAD,        /* a reset of a bad cascade returns 0 */
     FLAG_TRUNCATED,         /* flags are taken modulo 256 */
@@ -26,6 +27,7 @@ enum wrong {
     REFUSED_BLANKS,         /* a refused design writes the blank record */
     UNUSED_IDENTITY,        /* unused sections of a design have b0 = 1, as in the Rust */
     BAND_SWAPPED,           /* the first two sections of a band pass are swapped */
+    BAND_RATE_FIRST,        /* 3 before 2 in a band pass */
     RIPPLE_FIRST,           /* 4 before 1 */
     STOPBAND_LAST_BIT,      /* a coefficient of Chebyshev II is the next number */
     DESIGN_KEEPS_CLOUD,
@@ -37,6 +39,7 @@ enum wrong {
     FIR_HELD_STAYS,         /* the held count stays */
     FIR_MOVES_HELD_ONLY,    /* a step leaves the places behind the held samples */
     FIR_MARK_OWN,           /* a step is Clouded by its own sample only */
+    FIR_STAYS_CLOUDED,      /* a FIR's steps are Clouded until the reset */
     FIR_BLOCK_COUNT_OWN,    /* a block counts its own samples that are not finite */
     FIR_BLOCK_SHORT_FIRST,  /* 5 before 12 */
     FIR_BLOCK_SHORT_WRITES, /* a short output gets what fits */
@@ -96,6 +99,8 @@ REAL(pulse_design_butterworth_lp, size_t order, double cutoff, double rate, CASC
 REAL(pulse_design_butterworth_bp, size_t order, double low, double high, double rate, CASCADE) {
     size_t cloud = cl == 3 ? c[2] : 0;
     uint8_t number = __real_pulse_design_butterworth_bp(order, low, high, rate, n, nl, c, cl);
+    if (number == 2 && !(rate > 0) && is(BAND_RATE_FIRST))
+        return 3;
     if (!number && order > 1 && is(BAND_SWAPPED)) {
         double first[7];
         memcpy(first, n, sizeof first);
@@ -136,6 +141,10 @@ static void take(size_t *nl, size_t *c, size_t cl) {
 REAL(pulse_cascade_step, CASCADE, double x, double *a, size_t al, size_t *k, size_t kl) {
     take(&nl, c, cl);
     uint8_t number = __real_pulse_cascade_step(n, nl, c, cl, x, a, al, k, kl);
+    if (number == 11 && c[0] == 0 && is(BLANK_PASSES)) {
+        a[0] = x;
+        return 0;
+    }
     if (number && al && is(STEP_REFUSED_ANSWERS))
         a[0] = 0;
     if (!number && is(STEP_LAST_BIT))
@@ -192,6 +201,9 @@ REAL(pulse_fir_from_coeffs, const double *v, size_t vl, double *t, size_t tl, TA
     return number;
 }
 
+/* Whether a step since the last reset met a sample that was not finite. */
+static int met;
+
 /* What all runs of a FIR may take for good. */
 static void take_taps(size_t *c, size_t cl) {
     if (cl == 3 && c[2] == 5 && is(WINDOW_5))
@@ -214,6 +226,9 @@ REAL(pulse_fir_step, const double *t, size_t tl, TAP_RECORD, double x, double *a
         memcpy(s + c[1], old + c[1], (64 - c[1]) * sizeof *s);
     if (is(FIR_MARK_OWN))
         k[0] = !isfinite(x);
+    met |= !isfinite(x);
+    if (is(FIR_STAYS_CLOUDED))
+        k[0] = (size_t)met;
     return 0;
 }
 
@@ -238,6 +253,7 @@ REAL(pulse_fir_reset, const double *t, size_t tl, TAP_RECORD) {
     double old[64];
     take_taps(c, cl);
     memcpy(old, s, (sl < 64 ? sl : 64) * sizeof *s);
+    met = 0;
     uint8_t number = __real_pulse_fir_reset(t, tl, s, sl, c, cl);
     if (!number && is(FIR_RESET_KEEPS))
         memcpy(s, old, sizeof old);
