@@ -143,7 +143,9 @@ impl Bench {
         println!("\n| block length | FIR, 31 taps: ns a block | ns a sample | cascade, order 8: ns a block | ns a sample |\n|---|---|---|---|---|");
         let t = numbers(31, 7);
         for length in LENGTHS {
-            let [f, c] = [port::fir_blocks(&t, length), port::cascade_blocks(8, CUTOFF, RATE, length)].map(|run| self.times("block", [run])[0]);
+            let row = format!("blocks of {length}");
+            let [f, _] = self.times(&row, [port::fir_blocks(&t, length), ring(&t)]);
+            let [c, _] = self.times(&row, [port::cascade_blocks(8, CUTOFF, RATE, length), lowpass(8)]);
             println!("| {length} | {:.0} | {f:.2} | {:.0} | {c:.2} |", f * length as f64, c * length as f64);
         }
     }
