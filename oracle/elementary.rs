@@ -20,11 +20,48 @@ fn horner(s: f64, coefficients: &[f64]) -> f64 {
     rest.iter().rev().fold(*last, |sum, c| c + s * sum)
 }
 
-fn factorial(k: u64) -> f64 {
-    (1..=k).product::<u64>() as f64
+/// Series as constants: of each coefficient, one division.
+const fn factorial(k: usize) -> f64 {
+    let (mut product, mut i) = (1u64, 2);
+    while i <= k {
+        product *= i as u64;
+        i += 1;
+    }
+    product as f64
 }
+const fn alternating(first: usize) -> [f64; 8] {
+    let (mut series, mut i) = ([0.0; 8], 0);
+    while i < 8 {
+        let c = 1.0 / factorial(first + 2 * i);
+        series[i] = if i % 2 == 0 { -c } else { c };
+        i += 1;
+    }
+    series
+}
+const fn exponential() -> [f64; 14] {
+    let (mut series, mut j) = ([0.0; 14], 0);
+    while j < 14 {
+        series[j] = 1.0 / factorial(j);
+        j += 1;
+    }
+    series
+}
+const fn logarithm() -> [f64; 11] {
+    let (mut series, mut j) = ([0.0; 11], 0);
+    while j < 11 {
+        series[j] = 1.0 / (2 * j + 1) as f64;
+        j += 1;
+    }
+    series
+}
+const SINE: [f64; 8] = alternating(3);
+const COSINE: [f64; 8] = alternating(2);
+const EXPONENTIAL: [f64; 14] = exponential();
+const LOGARITHM: [f64; 11] = logarithm();
 
-/// q modulo 4, S and C; nothing for an angle that is not finite or above 128.
+/// q modulo 4, S and C; nothing for an angle that is not finite or above 128. Never inlined, nor exp and ln, so that the
+/// compiler does not work out a design's constant angles beforehand and bench/ measures the functions.
+#[inline(never)]
 fn turn(x: f64) -> Option<(i64, f64, f64)> {
     if !(x.abs() <= 128.0) {
         return None;
@@ -32,11 +69,8 @@ fn turn(x: f64) -> Option<(i64, f64, f64)> {
     let q = nearest(x * b(0x3FE45F306DC9C883));
     let r = (x - q * b(0x3FF921FB54400000)) - q * b(0x3DD0B4611A626331);
     let s = r * r;
-    let alternating = |first: u64| -> [f64; 8] {
-        std::array::from_fn(|i| if i % 2 == 0 { -(1.0 / factorial(first + 2 * i as u64)) } else { 1.0 / factorial(first + 2 * i as u64) })
-    };
-    let sine = r + (r * s) * horner(s, &alternating(3));
-    let cosine = 1.0 + s * horner(s, &alternating(2));
+    let sine = r + (r * s) * horner(s, &SINE);
+    let cosine = 1.0 + s * horner(s, &COSINE);
     Some(((q as i64).rem_euclid(4), sine, cosine))
 }
 
@@ -64,6 +98,7 @@ pub fn tan(x: f64) -> f64 {
     sin(x) / cos(x)
 }
 
+#[inline(never)]
 pub fn exp(x: f64) -> f64 {
     if x > 709.0 {
         return f64::INFINITY;
@@ -76,14 +111,14 @@ pub fn exp(x: f64) -> f64 {
     }
     let k = nearest(x / b(0x3FE62E42FEFA39EF));
     let r = (x - k * b(0x3FE62E42FEE00000)) - k * b(0x3DEA39EF35793C76);
-    let series: [f64; 14] = std::array::from_fn(|j| 1.0 / factorial(j as u64));
-    horner(r, &series) * b(((k as i64 + 1023) as u64) << 52)
+    horner(r, &EXPONENTIAL) * b(((k as i64 + 1023) as u64) << 52)
 }
 
 pub fn pow10(y: f64) -> f64 {
     exp(y * b(0x40026BB1BBB55516))
 }
 
+#[inline(never)]
 pub fn ln(x: f64) -> f64 {
     if x.is_nan() || x < 0.0 {
         return f64::NAN;
@@ -109,8 +144,7 @@ pub fn ln(x: f64) -> f64 {
     }
     let f = (m - 1.0) / (m + 1.0);
     let s = f * f;
-    let series: [f64; 11] = std::array::from_fn(|j| 1.0 / (2 * j + 1) as f64);
-    e * b(0x3FE62E42FEE00000) + ((2.0 * f) * horner(s, &series) + e * b(0x3DEA39EF35793C76))
+    e * b(0x3FE62E42FEE00000) + ((2.0 * f) * horner(s, &LOGARITHM) + e * b(0x3DEA39EF35793C76))
 }
 
 pub fn sinh(a: f64) -> f64 {

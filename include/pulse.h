@@ -1,0 +1,199 @@
+/* The pulse conditioning filters for C: the functions of libcapi.a (`rt staticlib capi` writes it to target/staticlib/).
+ *
+ * A filter's state is in the caller's memory, in the arrays described below; the library keeps nothing between two calls,
+ * allocates nothing and calls no function of a math library. Calls on different states may run at the same time.
+ *
+ * Slices. An array crosses as a pointer and then its length in items. The pointer is not null and points to at least that
+ * many items, even where the length is 0 or is not the one asked for. The slices of one call do not overlap each other, as
+ * if each were `restrict`: an input is not its own output, and two parts of one state do not share memory. A slice that is
+ * `const` here is only read.
+ *
+ * Refusals. Each function returns 0, or the number that refuses the call. After a refusal every slice is as it was before
+ * the call, bit for bit. No other number is returned, and none but where a function below names it.
+ *
+ * Numbers. double is IEEE 754 binary64. The processor's modes are those that a program starts with: rounding to nearest, ties
+ * to even, and subnormal numbers kept. Every answer is then fixed bit by bit, but for the bits of a NaN: where a NaN is
+ * answered, it may be any NaN. */
+#ifndef PULSE_H
+#define PULSE_H
+
+#include <stddef.h>
+#include <stdint.h>
+
+#ifdef __cplusplus
+extern "C" {
+#endif
+
+/* The numbers that refuse a call. */
+#define PULSE_INVALID_ORDER 1       /* an order or a number of taps that is 0 or too large */
+#define PULSE_INVALID_FREQUENCY 2   /* a cutoff or band edge that is a NaN or out of its range */
+#define PULSE_INVALID_SAMPLE_RATE 3 /* a sample rate that is a NaN or at most 0 */
+#define PULSE_INVALID_RIPPLE 4      /* decibels that are a NaN or at most 0 */
+#define PULSE_SHORT_OUTPUT 5        /* a block's output shorter than its input */
+#define PULSE_BAD_CASCADE 11        /* more than 4 sections, or no section and no first-order part */
+#define PULSE_BAD_TAPS 12           /* length 0 or above 64, held count above the length, or window code above 4 */
+#define PULSE_BAD_CALL 13           /* a slice of another length than asked for, a flag above 1, or a design's window code above 3 */
+
+/* Limits of the designs. */
+#define PULSE_MAX_ORDER 8           /* low pass, high pass, Chebyshev I and II */
+#define PULSE_MAX_BANDPASS_ORDER 4
+#define PULSE_MAX_TAPS 64
+
+/* The state of a cascade: an array `numbers` and an array `counts`.
+ *
+ * `numbers` holds four second-order sections of seven doubles each, then a first-order part of four. A section answers
+ * y = b0 x + w1, and then w1 becomes (b1 x - a1 y) + w2 and w2 becomes b2 x - a2 y. The first-order part answers
+ * y = b0 x + w, and then w becomes b1 x - a1 y. A sample passes the first-order part, if it is used, and then the used
+ * sections from section 0 on. Parts that are not used are +0 after a design, and otherwise neither read nor changed, but
+ * for a reset, which makes all carried values +0. */
+#define PULSE_NUMBERS_LEN 32
+#define PULSE_MAX_SECTIONS 4
+#define PULSE_SECTION_LEN 7
+enum pulse_section {                /* section i has its places at PULSE_SECTION_LEN * i + these */
+    PULSE_B0 = 0,
+    PULSE_B1 = 1,
+    PULSE_B2 = 2,
+    PULSE_A1 = 3,
+    PULSE_A2 = 4,
+    PULSE_W1 = 5,                   /* carried values */
+    PULSE_W2 = 6
+};
+enum pulse_first_order {
+    PULSE_FIRST_B0 = 28,
+    PULSE_FIRST_B1 = 29,
+    PULSE_FIRST_A1 = 30,
+    PULSE_FIRST_W = 31              /* carried value */
+};
+#define PULSE_CASCADE_COUNTS_LEN 3
+enum pulse_cascade_counts {
+    PULSE_SECTIONS = 0,             /* how many sections are used, 0 to 4 */
+    PULSE_HAS_FIRST = 1,            /* flag: 1 where the first-order part is used, else 0 */
+    PULSE_CLOUD = 2                 /* flag: 1 where a sample since the design or the last reset was not finite, else 0 */
+};
+
+/* The state of a FIR filter, a tap record: the arrays `taps`, `samples` and `counts`.
+ *
+ * Tap 0 belongs to the newest sample, which is at place 0 of `samples`. A step moves the samples of the first `length`
+ * places up by one, drops the last of them and puts the new sample at place 0; the places behind stay. The answer starts
+ * from +0 and adds taps[i] x samples[i] from i = 0 on, as far as samples are held. */
+#define PULSE_TAPS_LEN 64
+#define PULSE_SAMPLES_LEN 64
+#define PULSE_FIR_COUNTS_LEN 3
+enum pulse_fir_counts {
+    PULSE_LENGTH = 0,               /* how many taps there are, 1 to 64 */
+    PULSE_HELD = 1,                 /* how many samples are held, 0 to the length */
+    PULSE_WINDOW = 2                /* window code, 0 to 4 */
+};
+enum pulse_window {
+    PULSE_RECTANGULAR = 0,
+    PULSE_HAMMING = 1,
+    PULSE_HANNING = 2,
+    PULSE_BLACKMAN = 3,
+    PULSE_READY_MADE = 4            /* of a record only, never asked for in a design */
+};
+
+/* `answer` is one double and `clouded` one size_t. An answer is Clouded where a sample that is not finite is behind it: of
+ * a cascade, any sample since the design or the last reset; of a FIR, one of the samples held. */
+#define PULSE_ANSWER_LEN 1
+#define PULSE_CLOUDED_LEN 1
+
+/* Designs of a cascade.
+ *
+ * After each, `numbers` holds the coefficients, carried values +0 and unused parts +0; `counts` holds the number of
+ * sections, the first-order flag and 0. Frequencies have the unit of the sample rate; an infinite rate is accepted, and so
+ * is a design whose coefficients overflow.
+ *
+ * Each is refused by 13 where numbers_len is not 32 or counts_len is not 3, and after that as said there, in that order. */
+
+/* Butterworth low pass: order / 2 sections, and the first-order part where the order is odd.
+ * 13; 1: order 0 or above 8; 3: rate NaN or at most 0; 2: cutoff NaN, at most 0, or at least rate x 0.5. */
+uint8_t pulse_design_butterworth_lp(size_t order, double cutoff, double sample_rate,
+                                    double *numbers, size_t numbers_len, size_t *counts, size_t counts_len);
+
+/* Butterworth high pass: parts and refusals as of the low pass. */
+uint8_t pulse_design_butterworth_hp(size_t order, double cutoff, double sample_rate,
+                                    double *numbers, size_t numbers_len, size_t *counts, size_t counts_len);
+
+/* Butterworth band pass from `low` to `high`: as many sections as the order, and no first-order part.
+ * 13; 1: order 0 or above 4; 2: an edge NaN, low at most 0, high at most low, or high at least rate x 0.5; 3: rate NaN. */
+uint8_t pulse_design_butterworth_bp(size_t order, double low, double high, double sample_rate,
+                                    double *numbers, size_t numbers_len, size_t *counts, size_t counts_len);
+
+/* Chebyshev low pass of type I, `ripple_db` the ripple of the pass band in decibels: parts as of the Butterworth low pass.
+ * 13; 1, 3, 2 as of the Butterworth low pass; then 4: ripple_db NaN or at most 0. */
+uint8_t pulse_design_chebyshev1_lp(size_t order, double cutoff, double ripple_db, double sample_rate,
+                                   double *numbers, size_t numbers_len, size_t *counts, size_t counts_len);
+
+/* Chebyshev low pass of type II, `stopband_db` the attenuation of the stop band in decibels: parts as of the Butterworth
+ * low pass. 13; 1, 3, 2 as of the Butterworth low pass; then 4: stopband_db NaN or at most 0. */
+uint8_t pulse_design_chebyshev2_lp(size_t order, double cutoff, double stopband_db, double sample_rate,
+                                   double *numbers, size_t numbers_len, size_t *counts, size_t counts_len);
+
+/* Running a cascade. */
+
+/* One sample x. After it `answer` holds the answer, `clouded` 1 where it is Clouded and else 0, `numbers` the new carried
+ * values of the used parts and its other places as they were, and `counts` the new cloud flag.
+ * 13: numbers_len is not 32, counts_len not 3, answer_len or clouded_len not 1, or a flag in `counts` above 1; then 11. */
+uint8_t pulse_cascade_step(double *numbers, size_t numbers_len, size_t *counts, size_t counts_len, double x,
+                           double *answer, size_t answer_len, size_t *clouded, size_t clouded_len);
+
+/* The samples of `input`, each as a step, in their order. After it the first input_len places of `output` hold the
+ * answers, its later places what they held, `clouded` how many of the answers are Clouded, and `numbers` and `counts` the
+ * state after the last step. An empty input leaves the state and the output, and makes `clouded` 0.
+ * 13: numbers_len is not 32, counts_len not 3, clouded_len not 1, or a flag above 1; then 11; then 5: output_len below
+ * input_len. */
+uint8_t pulse_cascade_block(double *numbers, size_t numbers_len, size_t *counts, size_t counts_len,
+                            const double *input, size_t input_len, double *output, size_t output_len,
+                            size_t *clouded, size_t clouded_len);
+
+/* Forgets all samples: after it every carried value in `numbers` is +0, those of unused parts too, the cloud flag in
+ * `counts` is 0, and all else is as it was.
+ * 13: numbers_len is not 32, counts_len not 3, or a flag above 1; then 11. */
+uint8_t pulse_cascade_reset(double *numbers, size_t numbers_len, size_t *counts, size_t counts_len);
+
+/* Making a FIR filter. */
+
+/* Low pass by a windowed sinc: `taps_asked` taps, `cutoff` as a share of the sample rate, `window` 0 to 3. After it `taps`
+ * holds the taps and behind them +0, `samples` is all +0, and `counts` holds the number of taps, 0 and the window code. A
+ * single tap with a window other than the rectangular one is a NaN, and is accepted.
+ * 13: taps_len or samples_len is not 64, counts_len not 3, or window above 3; then 1: taps_asked 0 or above 64; then 2:
+ * cutoff NaN, at most 0, or at least 0.5. */
+uint8_t pulse_design_fir_lp(size_t taps_asked, double cutoff, size_t window,
+                            double *taps, size_t taps_len, double *samples, size_t samples_len,
+                            size_t *counts, size_t counts_len);
+
+/* Taps given ready-made: any numbers, coeffs_len of them. After it `taps` holds them and behind them +0, `samples` is all
+ * +0, and `counts` holds their number, 0 and the window code 4.
+ * 13: taps_len or samples_len is not 64, or counts_len not 3; then 1: coeffs_len 0 or above 64. */
+uint8_t pulse_fir_from_coeffs(const double *coeffs, size_t coeffs_len,
+                              double *taps, size_t taps_len, double *samples, size_t samples_len,
+                              size_t *counts, size_t counts_len);
+
+/* Running a FIR filter. */
+
+/* One sample x. After it `answer` holds the answer, `clouded` 1 where it is Clouded and else 0, `samples` the samples with
+ * x at place 0, and `counts` a held count that is one more, up to the length.
+ * 13: taps_len or samples_len is not 64, counts_len not 3, or answer_len or clouded_len not 1; then 12. */
+uint8_t pulse_fir_step(const double *taps, size_t taps_len, double *samples, size_t samples_len,
+                       size_t *counts, size_t counts_len, double x,
+                       double *answer, size_t answer_len, size_t *clouded, size_t clouded_len);
+
+/* The samples of `input`, each as a step, in their order. After it the first input_len places of `output` hold the
+ * answers, its later places what they held, `clouded` how many of the answers are Clouded, and `samples` and `counts` the
+ * state after the last step. An empty input leaves the state and the output, and makes `clouded` 0.
+ * 13: taps_len or samples_len is not 64, counts_len not 3, or clouded_len not 1; then 12; then 5: output_len below
+ * input_len. */
+uint8_t pulse_fir_block(const double *taps, size_t taps_len, double *samples, size_t samples_len,
+                        size_t *counts, size_t counts_len, const double *input, size_t input_len,
+                        double *output, size_t output_len, size_t *clouded, size_t clouded_len);
+
+/* Forgets all samples: after it `samples` is all +0 and the held count in `counts` is 0; all else is as it was.
+ * 13: taps_len or samples_len is not 64, or counts_len not 3; then 12. */
+uint8_t pulse_fir_reset(const double *taps, size_t taps_len, double *samples, size_t samples_len,
+                        size_t *counts, size_t counts_len);
+
+#ifdef __cplusplus
+}
+#endif
+
+#endif

@@ -1,0 +1,116 @@
+// The functions of include/pulse.h as the archive has them, called over slices that stand between guard places: a write
+// outside a slice is found.
+use crate::slices::{Call, Function::*, Slices};
+
+extern "C" {
+    fn pulse_design_butterworth_lp(order: usize, cutoff: f64, rate: f64, numbers: *mut f64, numbers_len: usize, counts: *mut usize, counts_len: usize) -> u8;
+    fn pulse_design_butterworth_hp(order: usize, cutoff: f64, rate: f64, numbers: *mut f64, numbers_len: usize, counts: *mut usize, counts_len: usize) -> u8;
+    fn pulse_design_butterworth_bp(order: usize, low: f64, high: f64, rate: f64, numbers: *mut f64, numbers_len: usize, counts: *mut usize, counts_len: usize) -> u8;
+    fn pulse_design_chebyshev1_lp(order: usize, cutoff: f64, decibels: f64, rate: f64, numbers: *mut f64, numbers_len: usize, counts: *mut usize, counts_len: usize) -> u8;
+    fn pulse_design_chebyshev2_lp(order: usize, cutoff: f64, decibels: f64, rate: f64, numbers: *mut f64, numbers_len: usize, counts: *mut usize, counts_len: usize) -> u8;
+    fn pulse_cascade_step(numbers: *mut f64, numbers_len: usize, counts: *mut usize, counts_len: usize, x: f64, answer: *mut f64, answer_len: usize, clouded: *mut usize, clouded_len: usize) -> u8;
+    fn pulse_cascade_block(numbers: *mut f64, numbers_len: usize, counts: *mut usize, counts_len: usize, input: *const f64, input_len: usize, output: *mut f64, output_len: usize, clouded: *mut usize, clouded_len: usize) -> u8;
+    fn pulse_cascade_reset(numbers: *mut f64, numbers_len: usize, counts: *mut usize, counts_len: usize) -> u8;
+    fn pulse_design_fir_lp(taps_asked: usize, cutoff: f64, window: usize, taps: *mut f64, taps_len: usize, samples: *mut f64, samples_len: usize, counts: *mut usize, counts_len: usize) -> u8;
+    fn pulse_fir_from_coeffs(coeffs: *const f64, coeffs_len: usize, taps: *mut f64, taps_len: usize, samples: *mut f64, samples_len: usize, counts: *mut usize, counts_len: usize) -> u8;
+    fn pulse_fir_step(taps: *const f64, taps_len: usize, samples: *mut f64, samples_len: usize, counts: *mut usize, counts_len: usize, x: f64, answer: *mut f64, answer_len: usize, clouded: *mut usize, clouded_len: usize) -> u8;
+    fn pulse_fir_block(taps: *const f64, taps_len: usize, samples: *mut f64, samples_len: usize, counts: *mut usize, counts_len: usize, input: *const f64, input_len: usize, output: *mut f64, output_len: usize, clouded: *mut usize, clouded_len: usize) -> u8;
+    fn pulse_fir_reset(taps: *const f64, taps_len: usize, samples: *mut f64, samples_len: usize, counts: *mut usize, counts_len: usize) -> u8;
+}
+
+const GUARDS: usize = 8;
+
+/// A slice with guard places before and behind it.
+struct Guarded<T> {
+    places: Vec<T>,
+    front: usize,
+    guard: T,
+}
+
+impl<T: Copy + PartialEq> Guarded<T> {
+    /// `shift` more places in front, so that slices start at any multiple of eight bytes.
+    fn new(slice: &[T], shift: usize, guard: T) -> Guarded<T> {
+        let front = GUARDS + shift;
+        let mut places = vec![guard; front];
+        places.extend_from_slice(slice);
+        places.extend_from_slice(&[guard; GUARDS]);
+        Guarded { places, front, guard }
+    }
+    fn start(&mut self) -> *mut T {
+        self.places[self.front..].as_mut_ptr()
+    }
+    fn len(&self) -> usize {
+        self.places.len() - self.front - GUARDS
+    }
+    /// Puts the slice back; false where a guard place was written.
+    fn back(self, slice: &mut [T]) -> bool {
+        let (front, rest) = self.places.split_at(self.front);
+        let (middle, behind) = rest.split_at(slice.len());
+        slice.copy_from_slice(middle);
+        front.iter().chain(behind).all(|g| *g == self.guard)
+    }
+}
+
+struct Lent {
+    floats: [Guarded<f64>; 6],
+    wholes: [Guarded<usize>; 3],
+}
+
+impl Lent {
+    fn new(s: &Slices, shift: usize) -> Lent {
+        let floats = [&s.numbers, &s.taps, &s.samples, &s.input, &s.output, &s.answer].map(|f| Guarded::new(f, shift, 123.456));
+        let wholes = [&s.counts, &s.fir_counts, &s.clouded].map(|w| Guarded::new(w, shift, 123_456));
+        Lent { floats, wholes }
+    }
+    fn back(self, s: &mut Slices) -> bool {
+        let mut good = true;
+        for (guarded, slice) in self.floats.into_iter().zip([&mut s.numbers, &mut s.taps, &mut s.samples, &mut s.input, &mut s.output, &mut s.answer]) {
+            good &= guarded.back(slice);
+        }
+        for (guarded, slice) in self.wholes.into_iter().zip([&mut s.counts, &mut s.fir_counts, &mut s.clouded]) {
+            good &= guarded.back(slice);
+        }
+        good
+    }
+}
+
+/// What the archive returns, and whether it stayed within the slices.
+pub fn call(call: &Call, slices: &mut Slices, shift: usize) -> (u8, bool) {
+    let mut lent = Lent::new(slices, shift);
+    let number = if call.function.is_cascade() { cascade(call, &mut lent) } else { fir(call, &mut lent) };
+    (number, lent.back(slices))
+}
+
+fn cascade(call: &Call, lent: &mut Lent) -> u8 {
+    let [numbers, _, _, input, output, answer] = &mut lent.floats;
+    let [counts, _, clouded] = &mut lent.wholes;
+    let (n, nl, c, cl) = (numbers.start(), numbers.len(), counts.start(), counts.len());
+    let v = |i: usize| call.floats[i];
+    unsafe {
+        match call.function {
+            LowPass => pulse_design_butterworth_lp(call.size, v(0), v(1), n, nl, c, cl),
+            HighPass => pulse_design_butterworth_hp(call.size, v(0), v(1), n, nl, c, cl),
+            BandPass => pulse_design_butterworth_bp(call.size, v(0), v(1), v(2), n, nl, c, cl),
+            Chebyshev1 => pulse_design_chebyshev1_lp(call.size, v(0), v(1), v(2), n, nl, c, cl),
+            Chebyshev2 => pulse_design_chebyshev2_lp(call.size, v(0), v(1), v(2), n, nl, c, cl),
+            CascadeStep => pulse_cascade_step(n, nl, c, cl, call.x, answer.start(), answer.len(), clouded.start(), clouded.len()),
+            CascadeBlock => pulse_cascade_block(n, nl, c, cl, input.start(), input.len(), output.start(), output.len(), clouded.start(), clouded.len()),
+            _ => pulse_cascade_reset(n, nl, c, cl),
+        }
+    }
+}
+
+fn fir(call: &Call, lent: &mut Lent) -> u8 {
+    let [_, taps, samples, input, output, answer] = &mut lent.floats;
+    let [_, counts, clouded] = &mut lent.wholes;
+    let (t, tl, s, sl, c, cl) = (taps.start(), taps.len(), samples.start(), samples.len(), counts.start(), counts.len());
+    unsafe {
+        match call.function {
+            FirDesign => pulse_design_fir_lp(call.size, call.floats[0], call.window, t, tl, s, sl, c, cl),
+            FirCoeffs => pulse_fir_from_coeffs(input.start(), input.len(), t, tl, s, sl, c, cl),
+            FirStep => pulse_fir_step(t, tl, s, sl, c, cl, call.x, answer.start(), answer.len(), clouded.start(), clouded.len()),
+            FirBlock => pulse_fir_block(t, tl, s, sl, c, cl, input.start(), input.len(), output.start(), output.len(), clouded.start(), clouded.len()),
+            _ => pulse_fir_reset(t, tl, s, sl, c, cl),
+        }
+    }
+}

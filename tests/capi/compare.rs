@@ -1,0 +1,231 @@
+// Compares the archive of the C interface with the published Rust, call by call: the same call and slices to the archive
+// (archive.rs), and to the designs of the published Rust (published.rs) and a model of running and of refusals (model.rs),
+// beside which the published filters run. Returned numbers, counts and every place of every slice must agree: bits, a NaN
+// matching any NaN; after a refusal, and where a call may not write, the very bits. Stops at the first difference.
+// Usage: compare [CALLS [SEED]]. tests/capi/run builds it as a library and links it with the archive, and once more with a
+// deliberately wrong one (wrong.c).
+mod archive;
+#[allow(dead_code)]
+mod cascades;
+#[allow(dead_code)]
+mod core;
+#[allow(dead_code)]
+mod current;
+mod elementary;
+mod maker;
+mod model;
+mod published;
+mod slices;
+#[allow(dead_code)]
+mod taps;
+#[allow(dead_code)]
+mod text;
+
+use crate::core::filters::FilterError;
+use maker::Dice;
+use published::Filters;
+use slices::{difference, Call, Function, Function::*, Slices, FUNCTIONS};
+
+const LONGEST_BLOCK: usize = 300;
+
+/// The number of a Rust error.
+fn refusal(error: FilterError) -> u8 {
+    match error {
+        FilterError::InvalidOrder => 1,
+        FilterError::InvalidFrequency => 2,
+        FilterError::InvalidSampleRate => 3,
+        FilterError::InvalidRipple => 4,
+    }
+}
+
+/// The numbers that each function may return.
+fn numbers(function: Function) -> &'static [u8] {
+    match function {
+        LowPass | HighPass | BandPass => &[0, 1, 2, 3, 13],
+        Chebyshev1 | Chebyshev2 => &[0, 1, 2, 3, 4, 13],
+        FirDesign => &[0, 1, 2, 13],
+        FirCoeffs => &[0, 1, 13],
+        CascadeStep | CascadeReset => &[0, 11, 13],
+        CascadeBlock => &[0, 5, 11, 13],
+        FirStep | FirReset => &[0, 12, 13],
+        FirBlock => &[0, 5, 12, 13],
+    }
+}
+
+struct Session {
+    dice: Dice,
+    state: Slices,
+    filters: Filters,
+    calls: u64,
+    /// How often each function returned each number.
+    tally: [[u64; 14]; 13],
+    /// Answers compared, and how many of them were a NaN.
+    answers: [u64; 2],
+    /// Which block lengths ran, of the cascade and of the FIR.
+    lengths: [[bool; LONGEST_BLOCK + 1]; 2],
+}
+
+impl Session {
+    fn new(seed: u64) -> Session {
+        let tally = [[0; 14]; 13];
+        let lengths = [[false; LONGEST_BLOCK + 1]; 2];
+        Session { dice: Dice(seed), state: Slices::blank(), filters: Filters::default(), calls: 0, tally, answers: [0; 2], lengths }
+    }
+
+    /// The number and the slices that the call must give. A live call is one on the current state: the published filters
+    /// go along with it.
+    fn expected(&mut self, call: &Call, before: &Slices, live: bool) -> (u8, Slices) {
+        let mut after = before.clone();
+        let mut number = model::refusal(call, before);
+        if number == 0 && call.function.is_design() {
+            match published::design(call, &mut after) {
+                Ok(filter) if live => self.filters.replace(call, Some(filter)),
+                Ok(_) => {}
+                Err(refusal) => number = refusal,
+            }
+        } else if number == 0 {
+            model::run(call, &mut after);
+            if live {
+                self.filters.run(call, &after);
+            }
+        }
+        (number, after)
+    }
+
+    fn compare(&mut self, call: &Call, before: Slices, live: bool) -> Result<(), String> {
+        let (number, expected) = self.expected(call, &before, live);
+        let mut given = before;
+        let (returned, within) = archive::call(call, &mut given, self.calls as usize % 8);
+        let found = match () {
+            _ if returned != number => Some(format!("expected {number}, returned {returned}")),
+            _ if !within => Some("a write outside a slice".to_string()),
+            _ => difference(call, number != 0, &expected, &given),
+        };
+        if let Some(found) = found {
+            return Err(format!("call {}, {call:?}, counts {:?} and {:?}: {found}", self.calls, expected.counts, expected.fir_counts));
+        }
+        self.count(call, number, &given);
+        if live {
+            self.state = given;
+        }
+        Ok(())
+    }
+
+    fn count(&mut self, call: &Call, number: u8, given: &Slices) {
+        self.calls += 1;
+        self.tally[call.function as usize][number as usize] += 1;
+        if number != 0 {
+            return;
+        }
+        let answers = match () {
+            _ if call.function.is_step() => &given.answer[..],
+            _ if call.function.is_block() => &given.output[..given.input.len()],
+            _ => &[],
+        };
+        self.answers[0] += answers.len() as u64;
+        self.answers[1] += answers.iter().filter(|y| y.is_nan()).count() as u64;
+        if call.function.is_block() {
+            self.lengths[!call.function.is_cascade() as usize][answers.len()] = true;
+        }
+    }
+
+    /// A call of the function on the current state.
+    fn live(&mut self, function: Function) -> Result<(), String> {
+        let mut before = self.state.clone();
+        let samples = self.dice.below(LONGEST_BLOCK + 1);
+        let call = self.dice.call(function, samples, &mut before);
+        self.compare(&call, before, true)
+    }
+
+    /// A call with one or two things wrong; the current state stays.
+    fn damaged(&mut self) -> Result<(), String> {
+        let function = self.dice.function();
+        let mut before = self.state.clone();
+        let samples = self.dice.below(20);
+        let mut call = self.dice.call(function, samples, &mut before);
+        self.dice.damage(&mut call, &mut before);
+        if self.dice.one_in(3) {
+            self.dice.damage(&mut call, &mut before);
+        }
+        self.compare(&call, before, false)
+    }
+
+    /// Leaves the designs: the current state becomes one that no design made.
+    fn other_state(&mut self) -> Result<(), String> {
+        let cascade = self.dice.one_in(2);
+        let function = if cascade { CascadeStep } else { FirStep };
+        let call = self.dice.call(function, 0, &mut self.state);
+        self.filters.replace(&call, None);
+        if cascade {
+            self.dice.cascade_state(&mut self.state);
+        } else {
+            self.dice.fir_state(&mut self.state);
+        }
+        self.live(function)
+    }
+
+    /// At times a reset of a cascade that met a sample that is not finite, so that most answers are numbers.
+    fn clean(&mut self) -> Result<(), String> {
+        let met = self.state.counts[2] == 1 || !self.state.numbers[5].is_finite();
+        if met && self.dice.one_in(3) { self.live(CascadeReset) } else { Ok(()) }
+    }
+
+    fn turn(&mut self) -> Result<(), String> {
+        self.clean()?;
+        match self.dice.below(100) {
+            0..=9 => {
+                let function = self.dice.pick(&[LowPass, HighPass, BandPass, Chebyshev1, Chebyshev2]);
+                self.live(function)
+            }
+            10..=14 => self.live(FirDesign),
+            15..=17 => self.live(FirCoeffs),
+            18..=21 => self.other_state(),
+            22..=36 => self.live(CascadeStep),
+            37..=51 => self.live(FirStep),
+            52..=64 => self.live(CascadeBlock),
+            65..=76 => self.live(FirBlock),
+            77 => self.live(CascadeReset),
+            78..=79 => self.live(FirReset),
+            _ => self.damaged(),
+        }
+    }
+
+    /// A function and a number that never came, or a block length that never ran.
+    fn missing(&self) -> Option<String> {
+        for function in FUNCTIONS {
+            for number in numbers(function) {
+                if self.tally[function as usize][*number as usize] == 0 {
+                    return Some(format!("{function:?} never returned {number}"));
+                }
+            }
+        }
+        let length = self.lengths.iter().find_map(|ran| ran.iter().position(|r| !r))?;
+        Some(format!("no block of {length} samples ran"))
+    }
+
+    fn report(&self) {
+        for function in FUNCTIONS {
+            let row: Vec<String> = numbers(function).iter().map(|n| format!("{n}: {}", self.tally[function as usize][*n as usize])).collect();
+            println!("{:<14}{}", format!("{function:?}"), row.join(", "));
+        }
+        println!("{} answers, {} of them a NaN", self.answers[0], self.answers[1]);
+    }
+}
+
+pub fn main() {
+    let given: Vec<u64> = std::env::args().skip(1).map(|a| a.parse().expect("usage: compare [CALLS [SEED]]")).collect();
+    let (calls, seed) = (given.first().copied().unwrap_or(300_000), given.get(1).copied().unwrap_or(1));
+    let mut session = Session::new(seed);
+    while session.calls < calls {
+        if let Err(found) = session.turn() {
+            println!("DIFFERENT: {found}");
+            std::process::exit(1);
+        }
+    }
+    session.report();
+    if let Some(missing) = session.missing() {
+        println!("too few calls: {missing}");
+        std::process::exit(1);
+    }
+    println!("compare: seed {seed}, {} calls: no difference", session.calls);
+}

@@ -1,0 +1,98 @@
+/* An example of the C interface: a Butterworth low pass of order 4 and a FIR of 31 Hamming taps, each designed, fed a step
+ * and a block, and reset; then a design and a block that are refused. Answers are printed as bit patterns, in the form of
+ * docs/PROTOCOL.md, so that the oracle and the program `sheet` answer the lines of example.requests with the same output:
+ * example.answers. */
+#include "pulse.h"
+#include <inttypes.h>
+#include <stdio.h>
+#include <string.h>
+
+static double numbers[PULSE_NUMBERS_LEN];
+static size_t counts[PULSE_CASCADE_COUNTS_LEN];
+static double taps[PULSE_TAPS_LEN], samples[PULSE_SAMPLES_LEN];
+static size_t fir_counts[PULSE_FIR_COUNTS_LEN];
+
+static const double pulse[6] = {0.5, 20.25, -3.75, 0.125, -0.5, 1.0};
+
+static void print_bits(const double *x, size_t n) {
+    for (size_t i = 0; i < n; i++) {
+        uint64_t bits;
+        memcpy(&bits, x + i, sizeof bits);
+        printf(" %016" PRIX64, bits);
+    }
+}
+
+static void print_step(uint8_t refusal, const double *answer, size_t clouded) {
+    if (refusal) {
+        printf("refused %u\n", refusal);
+        return;
+    }
+    printf(clouded ? "clouded" : "clear");
+    print_bits(answer, 1);
+    printf("\n");
+}
+
+static void print_block(uint8_t refusal, const double *output, size_t length, size_t clouded) {
+    if (refusal)
+        printf("refused %u", refusal);
+    else
+        printf("done %zu", clouded);
+    print_bits(output, length);
+    printf("\n");
+}
+
+static void cascade(void) {
+    double answer, output[8] = {1000, 1001, 1002, 1003, 1004, 1005, 1006, 1007};
+    size_t clouded;
+    uint8_t refusal = pulse_design_butterworth_lp(4, 1000, 10000, numbers, PULSE_NUMBERS_LEN, counts, PULSE_CASCADE_COUNTS_LEN);
+    if (refusal) {
+        printf("refused %u\n", refusal);
+        return;
+    }
+    printf("cascade %zu %zu", counts[PULSE_SECTIONS], counts[PULSE_HAS_FIRST]);
+    for (size_t i = 0; i < counts[PULSE_SECTIONS]; i++)
+        print_bits(numbers + PULSE_SECTION_LEN * i, PULSE_W1);
+    printf("\n");
+    refusal = pulse_cascade_step(numbers, PULSE_NUMBERS_LEN, counts, PULSE_CASCADE_COUNTS_LEN, 1, &answer, 1, &clouded, 1);
+    print_step(refusal, &answer, clouded);
+    refusal = pulse_cascade_block(numbers, PULSE_NUMBERS_LEN, counts, PULSE_CASCADE_COUNTS_LEN, pulse, 6, output, 8, &clouded, 1);
+    print_block(refusal, output, 8, clouded);
+    refusal = pulse_cascade_reset(numbers, PULSE_NUMBERS_LEN, counts, PULSE_CASCADE_COUNTS_LEN);
+    printf(refusal ? "refused %u\n" : "done\n", refusal);
+}
+
+static void fir(void) {
+    double answer, output[6] = {1000, 1001, 1002, 1003, 1004, 1005};
+    size_t clouded;
+    uint8_t refusal = pulse_design_fir_lp(31, 0.125, PULSE_HAMMING, taps, PULSE_TAPS_LEN, samples, PULSE_SAMPLES_LEN, fir_counts, PULSE_FIR_COUNTS_LEN);
+    if (refusal) {
+        printf("refused %u\n", refusal);
+        return;
+    }
+    printf("taps %zu %zu", fir_counts[PULSE_LENGTH], fir_counts[PULSE_WINDOW]);
+    print_bits(taps, fir_counts[PULSE_LENGTH]);
+    printf("\n");
+    refusal = pulse_fir_step(taps, PULSE_TAPS_LEN, samples, PULSE_SAMPLES_LEN, fir_counts, PULSE_FIR_COUNTS_LEN, 1, &answer, 1, &clouded, 1);
+    print_step(refusal, &answer, clouded);
+    refusal = pulse_fir_block(taps, PULSE_TAPS_LEN, samples, PULSE_SAMPLES_LEN, fir_counts, PULSE_FIR_COUNTS_LEN, pulse, 6, output, 6, &clouded, 1);
+    print_block(refusal, output, 6, clouded);
+    refusal = pulse_fir_reset(taps, PULSE_TAPS_LEN, samples, PULSE_SAMPLES_LEN, fir_counts, PULSE_FIR_COUNTS_LEN);
+    printf(refusal ? "refused %u\n" : "done\n", refusal);
+}
+
+/* An output that is too short, and an order that is too large: the output and the filter stay as they are. */
+static void refused(void) {
+    double output[2] = {1000, 1001};
+    size_t clouded = 0;
+    uint8_t refusal = pulse_fir_block(taps, PULSE_TAPS_LEN, samples, PULSE_SAMPLES_LEN, fir_counts, PULSE_FIR_COUNTS_LEN, pulse, 6, output, 2, &clouded, 1);
+    print_block(refusal, output, 2, clouded);
+    refusal = pulse_design_butterworth_lp(9, 1000, 10000, numbers, PULSE_NUMBERS_LEN, counts, PULSE_CASCADE_COUNTS_LEN);
+    printf("refused %u\n", refusal);
+}
+
+int main(void) {
+    cascade();
+    fir();
+    refused();
+    return 0;
+}

@@ -1,0 +1,198 @@
+// Makes calls and states by a deterministic pseudo random sequence: parameters, samples and states, good and bad.
+use crate::slices::{Call, Function, Function::*, Slices, FUNCTIONS};
+
+/// splitmix64.
+pub struct Dice(pub u64);
+
+impl Dice {
+    pub fn next(&mut self) -> u64 {
+        self.0 = self.0.wrapping_add(0x9E37_79B9_7F4A_7C15);
+        let mut z = self.0;
+        z = (z ^ (z >> 30)).wrapping_mul(0xBF58_476D_1CE4_E5B9);
+        z = (z ^ (z >> 27)).wrapping_mul(0x94D0_49BB_1331_11EB);
+        z ^ (z >> 31)
+    }
+    pub fn below(&mut self, n: usize) -> usize {
+        (self.next() % n as u64) as usize
+    }
+    pub fn one_in(&mut self, n: usize) -> bool {
+        self.below(n) == 0
+    }
+    pub fn pick<T: Copy>(&mut self, from: &[T]) -> T {
+        from[self.below(from.len())]
+    }
+    /// Above 0 and below 1.
+    fn unit(&mut self) -> f64 {
+        (self.next() >> 12) as f64 * 2f64.powi(-52) + 2f64.powi(-53)
+    }
+    fn ordinary(&mut self) -> f64 {
+        2.0 * self.unit() - 1.0
+    }
+
+    /// Zeros, subnormals, the largest and smallest, infinities, NaNs of several payloads, any bits.
+    fn special(&mut self) -> f64 {
+        let bits = self.next();
+        match self.below(8) {
+            0 => self.pick(&[f64::INFINITY, f64::NEG_INFINITY]),
+            1 => self.pick(&[f64::NAN, -f64::NAN, f64::from_bits(0x7FF0_0000_0000_0001), f64::from_bits(0xFFF4_0000_0000_1234), f64::from_bits(0x7FFF_FFFF_FFFF_FFFF)]),
+            2 => f64::from_bits(bits & 0x800F_FFFF_FFFF_FFFF),
+            3 => self.pick(&[0.0, -0.0, 5e-324, -5e-324, f64::MIN_POSITIVE, -f64::MIN_POSITIVE]),
+            4 => self.pick(&[f64::MAX, f64::MIN, 1e308, -1e300]),
+            5 => f64::from_bits(bits),
+            _ => self.ordinary() * 2f64.powi(self.below(2000) as i32 - 1000),
+        }
+    }
+
+    /// Samples: mostly ordinary ones, at times with a special one among them, with many, or only such.
+    pub fn samples(&mut self, n: usize) -> Vec<f64> {
+        let mood = self.below(24);
+        let scale = if mood < 4 { 2f64.powi(self.below(80) as i32 - 40) } else { 1.0 };
+        let mut xs: Vec<f64> = (0..n).map(|_| self.ordinary() * scale).collect();
+        let rate = [n.max(1), 4, 1][mood % 3];
+        for x in &mut xs {
+            if mood >= 21 && self.one_in(rate) {
+                *x = self.special();
+            }
+        }
+        xs
+    }
+    fn sample(&mut self) -> f64 {
+        if self.one_in(16) { self.special() } else { self.ordinary() }
+    }
+
+    fn rate(&mut self) -> f64 {
+        if self.one_in(12) {
+            return self.pick(&[0.0, -0.0, -1.0, f64::NAN, f64::INFINITY, f64::NEG_INFINITY, 5e-324, f64::MAX]);
+        }
+        self.pick(&[1.0, 1000.0, 10_000.0, 48_000.0, 1e-300, 0.1])
+    }
+    fn cutoff(&mut self, rate: f64) -> f64 {
+        if self.one_in(12) {
+            let half = rate * 0.5;
+            return self.pick(&[0.0, -0.0, -1.0, half, f64::from_bits(half.to_bits().wrapping_sub(1)), rate, f64::NAN, f64::INFINITY, 5e-324]);
+        }
+        rate * 0.5 * self.unit()
+    }
+    fn decibels(&mut self) -> f64 {
+        if self.one_in(12) {
+            return self.pick(&[0.0, -0.0, -3.0, f64::NAN, f64::INFINITY, f64::NEG_INFINITY, 5e-324, 1e-17, 700.0, 7000.0]);
+        }
+        0.01 + 60.0 * self.unit()
+    }
+    fn size(&mut self, most: usize) -> usize {
+        if self.one_in(8) {
+            return self.pick(&[0, most + 1, most + 2, 100, 256 + most, (1 << 32) + most, 1 << 63, usize::MAX]);
+        }
+        1 + self.below(most)
+    }
+
+    /// The floats of a design, in the order of its arguments.
+    fn floats(&mut self, function: Function) -> Vec<f64> {
+        let rate = self.rate();
+        let base = if rate.is_finite() && rate > 0.0 { rate } else { 1000.0 };
+        let cutoff = self.cutoff(base);
+        match function {
+            BandPass => {
+                let high = if self.one_in(6) { self.cutoff(base) } else { cutoff + (base * 0.5 - cutoff) * self.unit() };
+                vec![cutoff, high, rate]
+            }
+            Chebyshev1 | Chebyshev2 => vec![cutoff, self.decibels(), rate],
+            FirDesign => vec![self.cutoff(1.0)],
+            _ => vec![cutoff, rate],
+        }
+    }
+
+    /// A call of the function, its own slices among the given ones. A block has `samples` of them.
+    pub fn call(&mut self, function: Function, samples: usize, s: &mut Slices) -> Call {
+        let most = match function {
+            BandPass => 4,
+            FirDesign => 64,
+            _ => 8,
+        };
+        s.answer = vec![self.special()];
+        s.clouded = vec![self.pick(&[0, 1, 77, usize::MAX])];
+        (s.input, s.output) = (vec![], vec![]);
+        if function.is_block() {
+            s.input = self.samples(samples);
+            let more = self.pick(&[0, 0, 1, 2, 17, 40]);
+            let places = if samples > 0 && self.one_in(12) { self.below(samples) } else { samples + more };
+            s.output = (0..places).map(|_| self.special()).collect();
+        } else if function == FirCoeffs {
+            let n = if self.one_in(8) { self.pick(&[0, 65, 66, 100, 300]) } else { 1 + self.below(64) };
+            s.input = self.samples(n);
+        }
+        Call { function, size: self.size(most), window: self.below(4), floats: self.floats(function), x: self.sample() }
+    }
+
+    /// A state that no design made, and that is accepted: any numbers, parts that are not used included.
+    pub fn cascade_state(&mut self, s: &mut Slices) {
+        s.numbers = self.samples(32);
+        let sections = self.below(5);
+        let first = if sections == 0 { 1 } else { self.below(2) };
+        s.counts = vec![sections, first, self.below(2)];
+        if self.one_in(2) {
+            s.numbers[7 * sections..28].iter_mut().for_each(|x| *x = f64::NAN);
+        }
+    }
+    pub fn fir_state(&mut self, s: &mut Slices) {
+        (s.taps, s.samples) = (self.samples(64), self.samples(64));
+        let length = 1 + self.below(64);
+        let held = self.below(length + 1);
+        s.fir_counts = vec![length, held, self.below(5)];
+        if self.one_in(2) {
+            let behind = if self.one_in(2) { held } else { length };
+            s.samples[behind..].iter_mut().for_each(|x| *x = f64::NAN);
+        }
+    }
+
+    /// One thing wrong with the call: a length, a flag, a count, a window code.
+    pub fn damage(&mut self, call: &mut Call, s: &mut Slices) {
+        let f = call.function;
+        let near = |n: usize| [n + 1, n + 2, 256 + n, (1 << 32) + n, 1 << 63, usize::MAX];
+        let kind = self.below(3);
+        if kind == 0 {
+            return self.wrong_length(f, s);
+        }
+        match f {
+            FirDesign => call.window = self.pick(&near(3)),
+            CascadeStep | CascadeBlock | CascadeReset if s.counts.len() == 3 => {
+                if kind == 1 {
+                    s.counts[0] = self.pick(&near(4));
+                } else if self.one_in(3) {
+                    s.counts = vec![0, 0, self.below(2)];
+                } else {
+                    let flag = 1 + self.below(2);
+                    s.counts[flag] = self.pick(&near(1));
+                }
+            }
+            FirStep | FirBlock | FirReset if s.fir_counts.len() == 3 => match self.below(4) {
+                0 => s.fir_counts[0] = 0,
+                1 => s.fir_counts[0] = self.pick(&near(64)),
+                2 => s.fir_counts[1] = self.pick(&near(s.fir_counts[0].min(64))),
+                _ => s.fir_counts[2] = self.pick(&near(4)),
+            },
+            _ => self.wrong_length(f, s),
+        }
+    }
+
+    fn wrong_length(&mut self, f: Function, s: &mut Slices) {
+        let extra = self.special();
+        let other = [0, 1, 3, 4][self.below(4)];
+        let whole = self.below(3);
+        let float = |v: &mut Vec<f64>| v.resize(if other == 0 { 0 } else { (v.len() + other).saturating_sub(2) }, extra);
+        let count = |v: &mut Vec<usize>| v.resize(if other == 0 { 0 } else { (v.len() + other).saturating_sub(2) }, whole);
+        match (self.below(5), f.is_cascade()) {
+            (0, true) => count(&mut s.counts),
+            (0, false) => count(&mut s.fir_counts),
+            (1, false) => float(&mut s.samples),
+            (2, _) if f.is_step() => float(&mut s.answer),
+            (3, _) if f.is_step() || f.is_block() => count(&mut s.clouded),
+            (_, true) => float(&mut s.numbers),
+            (_, false) => float(&mut s.taps),
+        }
+    }
+
+    pub fn function(&mut self) -> Function {
+        self.pick(&FUNCTIONS)
+    }
+}

@@ -1,0 +1,180 @@
+/* Replays stored answers of the published Rust through the C interface, and compares every number, mark, count and output
+ * place. The list is that of the program `replay`, crates/replay/data/answers: tools/replay-list asked the oracle
+ * (oracle/build, from the published Rust) and tools/replay.py converted its answers; the latter says how the list is laid
+ * out. Its elementary functions are not part of this interface and are passed over.
+ * Usage: replay LIST. Status 0: all agree; 1: a difference, which is shown; 2: no list. */
+#include "pulse.h"
+#include <inttypes.h>
+#include <stdio.h>
+#include <stdlib.h>
+#include <string.h>
+
+enum { LOW_PASS, HIGH_PASS, BAND_PASS, CHEBYSHEV1, CHEBYSHEV2, CASCADE_STEP, CASCADE_BLOCK, CASCADE_RESET, FIR, TAPS, FIR_STEP, FIR_BLOCK, FIR_RESET };
+enum { MOST = 1000, FIRST_OUTPUT = 1000 };
+
+struct state {
+    double numbers[PULSE_NUMBERS_LEN];
+    size_t counts[PULSE_CASCADE_COUNTS_LEN];
+    double taps[PULSE_TAPS_LEN], samples[PULSE_SAMPLES_LEN];
+    size_t fir_counts[PULSE_FIR_COUNTS_LEN];
+};
+static struct state now;
+#define CASCADE now.numbers, PULSE_NUMBERS_LEN, now.counts, PULSE_CASCADE_COUNTS_LEN
+#define TAP_RECORD now.taps, PULSE_TAPS_LEN, now.samples, PULSE_SAMPLES_LEN, now.fir_counts, PULSE_FIR_COUNTS_LEN
+
+static uint64_t asked[MOST], expected[MOST], given[MOST];
+static double floats[MOST], output[MOST];
+
+static double number(uint64_t word) {
+    double x;
+    memcpy(&x, &word, sizeof x);
+    return x;
+}
+
+/* The bits of a number; every NaN's as the list has them. */
+static uint64_t word(double x) {
+    uint64_t bits;
+    memcpy(&bits, &x, sizeof bits);
+    return x == x ? bits : UINT64_C(0x7FF8000000000000);
+}
+
+static uint8_t design(uint64_t kind) {
+    double a = number(asked[1]), b = number(asked[2]), c = number(asked[3]);
+    switch (kind) {
+    case LOW_PASS: return pulse_design_butterworth_lp(asked[0], a, b, CASCADE);
+    case HIGH_PASS: return pulse_design_butterworth_hp(asked[0], a, b, CASCADE);
+    case BAND_PASS: return pulse_design_butterworth_bp(asked[0], a, b, c, CASCADE);
+    case CHEBYSHEV1: return pulse_design_chebyshev1_lp(asked[0], a, b, c, CASCADE);
+    case CHEBYSHEV2: return pulse_design_chebyshev2_lp(asked[0], a, b, c, CASCADE);
+    default: return pulse_design_fir_lp(asked[0], a, asked[2], TAP_RECORD);
+    }
+}
+
+static size_t put(size_t n, const double *from, size_t count) {
+    for (size_t i = 0; i < count; i++)
+        given[n + i] = word(from[i]);
+    return n + count;
+}
+
+/* The answer's words of a design or of ready-made taps, from the state that it left. A refused one changed nothing; the
+ * list goes on from the blank record. */
+static size_t designed(uint64_t kind, uint8_t refusal) {
+    size_t n = 3;
+    given[0] = refusal;
+    given[1] = given[2] = 0;
+    if (kind < CASCADE_STEP) {
+        if (refusal) {
+            memset(now.numbers, 0, sizeof now.numbers);
+            memset(now.counts, 0, sizeof now.counts);
+        }
+        given[1] = now.counts[PULSE_SECTIONS];
+        given[2] = now.counts[PULSE_HAS_FIRST];
+        if (given[2])
+            n = put(n, now.numbers + PULSE_FIRST_B0, 3);
+        for (size_t i = 0; i < given[1]; i++)
+            n = put(n, now.numbers + PULSE_SECTION_LEN * i, 5);
+        return n;
+    }
+    if (refusal) {
+        memset(now.taps, 0, sizeof now.taps);
+        memset(now.samples, 0, sizeof now.samples);
+        memset(now.fir_counts, 0, sizeof now.fir_counts);
+    }
+    given[1] = now.fir_counts[PULSE_LENGTH];
+    given[2] = now.fir_counts[PULSE_WINDOW];
+    return put(n, now.taps, given[1]);
+}
+
+static size_t step(uint64_t kind, uint8_t *refusal) {
+    double x = number(asked[0]), answer = 0;
+    size_t clouded = 0;
+    *refusal = kind == CASCADE_STEP ? pulse_cascade_step(CASCADE, x, &answer, 1, &clouded, 1) : pulse_fir_step(TAP_RECORD, x, &answer, 1, &clouded, 1);
+    given[0] = *refusal ? 2 : clouded;
+    given[1] = *refusal ? *refusal : word(answer);
+    return 2;
+}
+
+static size_t block(uint64_t kind, uint8_t *refusal) {
+    size_t samples = asked[0], places = asked[1], clouded = 0;
+    for (size_t i = 0; i < samples; i++)
+        floats[i] = number(asked[2 + i]);
+    for (size_t i = 0; i < places; i++)
+        output[i] = (double)(FIRST_OUTPUT + i);
+    *refusal = kind == CASCADE_BLOCK ? pulse_cascade_block(CASCADE, floats, samples, output, places, &clouded, 1)
+                                     : pulse_fir_block(TAP_RECORD, floats, samples, output, places, &clouded, 1);
+    given[0] = *refusal;
+    given[1] = clouded;
+    return put(2, output, places);
+}
+
+static size_t reset(uint64_t kind, uint8_t *refusal) {
+    *refusal = kind == CASCADE_RESET ? pulse_cascade_reset(CASCADE) : pulse_fir_reset(TAP_RECORD);
+    given[0] = *refusal;
+    return 1;
+}
+
+/* Calls the function; false where a refused call changed the state. The answer's words go to `given`, *n of them. */
+static int called(uint64_t kind, size_t words, size_t *n) {
+    struct state before = now;
+    uint8_t refusal = 0;
+    switch (kind) {
+    case CASCADE_STEP: case FIR_STEP: *n = step(kind, &refusal); break;
+    case CASCADE_BLOCK: case FIR_BLOCK: *n = block(kind, &refusal); break;
+    case CASCADE_RESET: case FIR_RESET: *n = reset(kind, &refusal); break;
+    case TAPS:
+        for (size_t i = 0; i < words; i++)
+            floats[i] = number(asked[i]);
+        refusal = pulse_fir_from_coeffs(floats, words, TAP_RECORD);
+        break;
+    default: refusal = design(kind);
+    }
+    int kept = !refusal || memcmp(&before, &now, sizeof now) == 0;
+    if (kind < CASCADE_STEP || kind == FIR || kind == TAPS)
+        *n = designed(kind, refusal);
+    return kept;
+}
+
+static int read_words(FILE *list, uint64_t *words, size_t count) {
+    for (size_t i = 0; i < count; i++)
+        if (fscanf(list, "%16" SCNx64, words + i) != 1)
+            return 0;
+    return 1;
+}
+
+/* Reads a request and replays it: 1 where it agrees, 0 where it is passed over, -1 where it differs or cannot be read. */
+static int request(FILE *list, size_t line) {
+    uint64_t head[3];
+    size_t n = 0;
+    if (!read_words(list, head, 3) || head[1] > MOST || head[2] > MOST || !read_words(list, asked, head[1]) || !read_words(list, expected, head[2])) {
+        printf("request %zu of the list cannot be read\n", line);
+        return -1;
+    }
+    if (head[0] > FIR_RESET)
+        return 0;
+    int kept = called(head[0], head[1], &n);
+    if (kept && n == head[2] && memcmp(expected, given, n * sizeof *given) == 0)
+        return 1;
+    printf("request %zu, kind %" PRIu64 ": %s; expected and given:\n", line, head[0], kept ? "another answer" : "refused, and the state is changed");
+    for (size_t i = 0; i < head[2] || i < n; i++)
+        printf("%016" PRIX64 " %016" PRIX64 "\n", i < head[2] ? expected[i] : 0, i < n ? given[i] : 0);
+    return -1;
+}
+
+int main(int argc, char **argv) {
+    FILE *list = argc == 2 ? fopen(argv[1], "r") : 0;
+    uint64_t requests;
+    size_t agree = 0;
+    if (!list || !read_words(list, &requests, 1)) {
+        fprintf(stderr, "usage: replay LIST\n");
+        return 2;
+    }
+    for (size_t i = 1; i <= requests; i++) {
+        int result = request(list, i);
+        if (result < 0)
+            return 1;
+        agree += (size_t)result;
+    }
+    fclose(list);
+    printf("replay: %zu requests agree with the Rust\n", agree);
+    return agree ? 0 : 1;
+}

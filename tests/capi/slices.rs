@@ -1,0 +1,109 @@
+// A call of the C interface and the slices that it is lent, and how slices are compared.
+
+#[derive(Clone, Copy, Debug, PartialEq)]
+pub enum Function {
+    LowPass,
+    HighPass,
+    BandPass,
+    Chebyshev1,
+    Chebyshev2,
+    CascadeStep,
+    CascadeBlock,
+    CascadeReset,
+    FirDesign,
+    FirCoeffs,
+    FirStep,
+    FirBlock,
+    FirReset,
+}
+use Function::*;
+pub const FUNCTIONS: [Function; 13] =
+    [LowPass, HighPass, BandPass, Chebyshev1, Chebyshev2, CascadeStep, CascadeBlock, CascadeReset, FirDesign, FirCoeffs, FirStep, FirBlock, FirReset];
+
+impl Function {
+    pub fn is_cascade_design(self) -> bool {
+        matches!(self, LowPass | HighPass | BandPass | Chebyshev1 | Chebyshev2)
+    }
+    pub fn is_design(self) -> bool {
+        self.is_cascade_design() || matches!(self, FirDesign | FirCoeffs)
+    }
+    /// Whether the call is lent a cascade; else a tap record.
+    pub fn is_cascade(self) -> bool {
+        self.is_cascade_design() || matches!(self, CascadeStep | CascadeBlock | CascadeReset)
+    }
+    pub fn is_step(self) -> bool {
+        matches!(self, CascadeStep | FirStep)
+    }
+    pub fn is_block(self) -> bool {
+        matches!(self, CascadeBlock | FirBlock)
+    }
+}
+
+/// The arguments that are not slices: an order or a number of taps, a window code, a design's floats, a step's sample.
+#[derive(Clone, Debug)]
+pub struct Call {
+    pub function: Function,
+    pub size: usize,
+    pub window: usize,
+    pub floats: Vec<f64>,
+    pub x: f64,
+}
+
+/// All slices; a call is lent those that its function names. Ready-made taps are lent as `input`.
+#[derive(Clone)]
+pub struct Slices {
+    pub numbers: Vec<f64>,
+    pub counts: Vec<usize>,
+    pub taps: Vec<f64>,
+    pub samples: Vec<f64>,
+    pub fir_counts: Vec<usize>,
+    pub input: Vec<f64>,
+    pub output: Vec<f64>,
+    pub answer: Vec<f64>,
+    pub clouded: Vec<usize>,
+}
+
+impl Slices {
+    pub fn blank() -> Slices {
+        let zeros = |n| vec![0.0; n];
+        let (counts, fir_counts) = (vec![0; 3], vec![0; 3]);
+        Slices { numbers: zeros(32), counts, taps: zeros(64), samples: zeros(64), fir_counts, input: vec![], output: vec![], answer: zeros(1), clouded: vec![0] }
+    }
+
+    fn floats(&self) -> [(&'static str, &[f64]); 6] {
+        [("numbers", &self.numbers), ("taps", &self.taps), ("samples", &self.samples), ("input", &self.input), ("output", &self.output), ("answer", &self.answer)]
+    }
+
+    fn wholes(&self) -> [(&'static str, &[usize]); 3] {
+        [("counts", &self.counts), ("counts of the taps", &self.fir_counts), ("clouded", &self.clouded)]
+    }
+}
+
+/// The same bits, or both a NaN.
+pub fn same(a: f64, b: f64) -> bool {
+    a.to_bits() == b.to_bits() || a.is_nan() && b.is_nan()
+}
+
+/// Whether a place must have the very bits: after a refusal all, else those that a call may not write.
+fn exact(call: &Call, refused: bool, name: &str, place: usize, answered: usize) -> bool {
+    refused || name == "input" || name == "output" && place >= answered || name == "taps" && !call.function.is_design()
+}
+
+/// The first place that differs.
+pub fn difference(call: &Call, refused: bool, expected: &Slices, given: &Slices) -> Option<String> {
+    for ((name, e), (_, g)) in expected.wholes().into_iter().zip(given.wholes()) {
+        if e != g {
+            return Some(format!("{name}: expected {e:?}, given {g:?}"));
+        }
+    }
+    let answered = if call.function.is_block() { expected.input.len() } else { 0 };
+    for ((name, e), (_, g)) in expected.floats().into_iter().zip(given.floats()) {
+        for (place, (a, b)) in e.iter().zip(g).enumerate() {
+            let good = if exact(call, refused, name, place, answered) { a.to_bits() == b.to_bits() } else { same(*a, *b) };
+            if !good {
+                return Some(format!("{name}[{place}]: expected {:016X} ({a:e}), given {:016X} ({b:e})", a.to_bits(), b.to_bits()));
+            }
+        }
+    }
+    None
+}

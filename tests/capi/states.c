@@ -1,0 +1,330 @@
+/* Tries what the stored answers of the Rust cannot have: slices of wrong lengths, damaged states, two reasons for a refusal
+ * at once, and every place of a state after a call. The expected numbers are written here from include/pulse.h. After each
+ * refusal all slices, and the guard places behind them, must be bit for bit as before.
+ * Usage: states. Status 0: all as expected; 1: a difference, which is shown. */
+#include "pulse.h"
+#include <math.h>
+#include <stdio.h>
+#include <string.h>
+
+enum function { LOW_PASS, HIGH_PASS, BAND_PASS, CHEBYSHEV1, CHEBYSHEV2, CASCADE_STEP, CASCADE_BLOCK, CASCADE_RESET,
+                FIR_DESIGN, FIR_COEFFS, FIR_STEP, FIR_BLOCK, FIR_RESET, FUNCTIONS };
+static const char *const names[FUNCTIONS] = {
+    "butterworth_lp", "butterworth_hp", "butterworth_bp", "chebyshev1_lp", "chebyshev2_lp", "cascade_step", "cascade_block",
+    "cascade_reset", "fir_lp", "fir_from_coeffs", "fir_step", "fir_block", "fir_reset"};
+
+/* The slices of a call with room behind each, their lengths, and the other arguments. */
+enum slice { NUMBERS, COUNTS, TAPS, SAMPLES, FIR_COUNTS, INPUT, OUTPUT, ANSWER, CLOUDED, SLICES };
+struct lent {
+    double numbers[40], taps[80], samples[80], input[80], output[80], answer[4];
+    size_t counts[6], fir_counts[6], clouded[4];
+    size_t length[SLICES];
+    size_t size, window;
+    double cutoff, high, decibels, rate, x;
+};
+
+static unsigned tried, failed;
+
+static void fail(const char *what, const char *name, unsigned expected, unsigned given) {
+    failed++;
+    printf("%s, %s: expected %u, given %u\n", name, what, expected, given);
+}
+
+static void check(int good, const char *what) {
+    tried++;
+    if (!good)
+        fail(what, "state", 1, 0);
+}
+
+/* A good call of any function: a cascade of two sections and a first-order part, a FIR of three taps that holds two. */
+static struct lent good(void) {
+    struct lent s;
+    static const size_t length[SLICES] = {PULSE_NUMBERS_LEN, PULSE_CASCADE_COUNTS_LEN, PULSE_TAPS_LEN, PULSE_SAMPLES_LEN, PULSE_FIR_COUNTS_LEN, 3, 5, 1, 1};
+    memset(&s, 0, sizeof s);
+    for (int i = 0; i < 80; i++) {
+        if (i < 40)
+            s.numbers[i] = 0.5 / (i + 1);
+        s.taps[i] = 0.25 / (i + 1);
+        s.samples[i] = i + 1;
+        s.input[i] = 2 - i;
+        s.output[i] = 1000 + i;
+    }
+    for (int i = 0; i < 4; i++) {
+        s.answer[i] = 77;
+        s.clouded[i] = 99;
+    }
+    s.counts[PULSE_SECTIONS] = 2;
+    s.counts[PULSE_HAS_FIRST] = 1;
+    s.fir_counts[PULSE_LENGTH] = 3;
+    s.fir_counts[PULSE_HELD] = 2;
+    s.fir_counts[PULSE_WINDOW] = PULSE_READY_MADE;
+    memcpy(s.length, length, sizeof length);
+    s.size = 3;
+    s.window = PULSE_HAMMING;
+    s.cutoff = 0.125;
+    s.high = 0.25;
+    s.decibels = 3;
+    s.rate = 1;
+    s.x = 1.5;
+    return s;
+}
+
+#define CASCADE s->numbers, s->length[NUMBERS], s->counts, s->length[COUNTS]
+#define TAP_RECORD s->taps, s->length[TAPS], s->samples, s->length[SAMPLES], s->fir_counts, s->length[FIR_COUNTS]
+#define THE_INPUT s->input, s->length[INPUT]
+#define THE_OUTPUT s->output, s->length[OUTPUT], s->clouded, s->length[CLOUDED]
+#define THE_ANSWER s->answer, s->length[ANSWER], s->clouded, s->length[CLOUDED]
+
+static uint8_t call(enum function f, struct lent *s) {
+    switch (f) {
+    case LOW_PASS: return pulse_design_butterworth_lp(s->size, s->cutoff, s->rate, CASCADE);
+    case HIGH_PASS: return pulse_design_butterworth_hp(s->size, s->cutoff, s->rate, CASCADE);
+    case BAND_PASS: return pulse_design_butterworth_bp(s->size, s->cutoff, s->high, s->rate, CASCADE);
+    case CHEBYSHEV1: return pulse_design_chebyshev1_lp(s->size, s->cutoff, s->decibels, s->rate, CASCADE);
+    case CHEBYSHEV2: return pulse_design_chebyshev2_lp(s->size, s->cutoff, s->decibels, s->rate, CASCADE);
+    case CASCADE_STEP: return pulse_cascade_step(CASCADE, s->x, THE_ANSWER);
+    case CASCADE_BLOCK: return pulse_cascade_block(CASCADE, THE_INPUT, THE_OUTPUT);
+    case CASCADE_RESET: return pulse_cascade_reset(CASCADE);
+    case FIR_DESIGN: return pulse_design_fir_lp(s->size, s->cutoff, s->window, TAP_RECORD);
+    case FIR_COEFFS: return pulse_fir_from_coeffs(THE_INPUT, TAP_RECORD);
+    case FIR_STEP: return pulse_fir_step(TAP_RECORD, s->x, THE_ANSWER);
+    case FIR_BLOCK: return pulse_fir_block(TAP_RECORD, THE_INPUT, THE_OUTPUT);
+    default: return pulse_fir_reset(TAP_RECORD);
+    }
+}
+
+/* The call must return the number and, where that is not 0, change nothing. */
+static void expect(enum function f, struct lent s, uint8_t number, const char *what) {
+    struct lent before = s;
+    uint8_t given = call(f, &s);
+    tried++;
+    if (given != number)
+        fail(what, names[f], number, given);
+    else if (number && memcmp(&before, &s, sizeof s))
+        fail("something is changed by a refused call", names[f], number, given);
+}
+
+static int is_cascade(enum function f) { return f <= CASCADE_RESET; }
+static int is_design(enum function f) { return f <= CHEBYSHEV2 || f == FIR_DESIGN || f == FIR_COEFFS; }
+static int is_block(enum function f) { return f == CASCADE_BLOCK || f == FIR_BLOCK; }
+static int is_step(enum function f) { return f == CASCADE_STEP || f == FIR_STEP; }
+
+/* Whether 13 watches the length of the slice. */
+static int is_watched(enum function f, enum slice slice) {
+    switch (slice) {
+    case NUMBERS: case COUNTS: return is_cascade(f);
+    case TAPS: case SAMPLES: case FIR_COUNTS: return !is_cascade(f);
+    case ANSWER: return is_step(f);
+    case CLOUDED: return is_step(f) || is_block(f);
+    default: return 0;
+    }
+}
+
+/* Everything wrong that draws a number other than 13. */
+static void spoil(struct lent *s) {
+    s->size = 0;
+    s->rate = 0;
+    s->counts[PULSE_SECTIONS] = 5;
+    s->fir_counts[PULSE_LENGTH] = 65;
+    s->length[OUTPUT] = 1;
+}
+
+static void wrong_lengths(void) {
+    for (int f = 0; f < FUNCTIONS; f++) {
+        expect(f, good(), 0, "a good call");
+        for (int slice = 0; slice < SLICES; slice++) {
+            size_t right = good().length[slice];
+            size_t wrong[] = {0, right - 1, right + 1};
+            for (int i = 0; i < 3 && is_watched(f, slice); i++) {
+                struct lent s = good();
+                s.length[slice] = wrong[i];
+                expect(f, s, PULSE_BAD_CALL, "a slice of a wrong length");
+                spoil(&s);
+                expect(f, s, PULSE_BAD_CALL, "a wrong length before any other refusal");
+            }
+        }
+    }
+}
+
+/* A count of the state, or of a call, set to a value that is refused, alone and before a short output. */
+static void refused_count(enum function f, size_t place, size_t value, uint8_t number) {
+    struct lent s = good();
+    (is_cascade(f) ? s.counts : s.fir_counts)[place] = value;
+    expect(f, s, number, "a damaged state");
+    s.length[OUTPUT] = 0;
+    expect(f, s, number, "a damaged state before a short output");
+    if (number == PULSE_BAD_CALL) {
+        spoil(&s);
+        expect(f, s, number, "a bad flag before any other refusal");
+    }
+}
+
+static void damaged_states(void) {
+    const size_t wide[] = {0, 256, (size_t)1 << 32, (size_t)1 << 63};
+    for (int f = 0; f < FUNCTIONS; f++) {
+        for (int i = 0; i < 4 && !is_design(f); i++) {
+            if (is_cascade(f)) {
+                refused_count(f, PULSE_HAS_FIRST, wide[i] + (i ? 1 : 2), PULSE_BAD_CALL);
+                refused_count(f, PULSE_CLOUD, wide[i] + (i ? 0 : 2), PULSE_BAD_CALL);
+                refused_count(f, PULSE_SECTIONS, wide[i] + (i ? 2 : 5), PULSE_BAD_CASCADE);
+            } else {
+                refused_count(f, PULSE_LENGTH, wide[i] + (i ? 3 : 65), PULSE_BAD_TAPS);
+                refused_count(f, PULSE_LENGTH, i ? 1 : 0, PULSE_BAD_TAPS);
+                refused_count(f, PULSE_HELD, wide[i] + (i ? 2 : 4), PULSE_BAD_TAPS);
+                refused_count(f, PULSE_WINDOW, wide[i] + (i ? 4 : 5), PULSE_BAD_TAPS);
+            }
+        }
+        struct lent s = good();
+        s.counts[PULSE_SECTIONS] = s.counts[PULSE_HAS_FIRST] = 0;
+        if (is_cascade(f) && !is_design(f))
+            expect(f, s, PULSE_BAD_CASCADE, "neither a section nor a first-order part");
+        for (size_t n = 0; n < 3 && is_block(f); n++) {
+            s = good();
+            s.length[OUTPUT] = n;
+            expect(f, s, PULSE_SHORT_OUTPUT, "a short output");
+        }
+    }
+}
+
+/* The designs' refusals, each before those that 01 puts behind it. */
+static void refused_designs(void) {
+    for (int f = LOW_PASS; f <= CHEBYSHEV2; f++) {
+        struct lent s = good();
+        s.decibels = NAN;
+        if (f >= CHEBYSHEV1)
+            expect(f, s, PULSE_INVALID_RIPPLE, "decibels NaN");
+        s.cutoff = f == BAND_PASS ? 0.25 : 0.5;
+        expect(f, s, PULSE_INVALID_FREQUENCY, "cutoff at half the rate, or band edges the same");
+        s.rate = f == BAND_PASS ? 0 : NAN;
+        expect(f, s, f == BAND_PASS ? PULSE_INVALID_FREQUENCY : PULSE_INVALID_SAMPLE_RATE, "the rate too");
+        s.size = f == BAND_PASS ? 5 : 9;
+        expect(f, s, PULSE_INVALID_ORDER, "order too large");
+        s.size = ((size_t)1 << 32) + 2;
+        expect(f, s, PULSE_INVALID_ORDER, "order far too large");
+    }
+    struct lent s = good();
+    s.rate = NAN;
+    expect(BAND_PASS, s, PULSE_INVALID_SAMPLE_RATE, "rate NaN");
+    s.cutoff = 0.5;
+    expect(FIR_DESIGN, s, PULSE_INVALID_FREQUENCY, "cutoff 0.5");
+    s.size = 65;
+    expect(FIR_DESIGN, s, PULSE_INVALID_ORDER, "65 taps");
+    s.window = PULSE_READY_MADE;
+    expect(FIR_DESIGN, s, PULSE_BAD_CALL, "window code 4");
+    s.window = 256;
+    expect(FIR_DESIGN, s, PULSE_BAD_CALL, "window code 256");
+    for (s.length[INPUT] = 0; s.length[INPUT] < 70; s.length[INPUT]++)
+        expect(FIR_COEFFS, s, s.length[INPUT] == 0 || s.length[INPUT] > 64 ? PULSE_INVALID_ORDER : 0, "ready-made taps by their number");
+}
+
+static int is_plus_zero(double x) { return x == 0 && !signbit(x); }
+
+static void designed_places(void) {
+    for (int f = LOW_PASS; f <= CHEBYSHEV2; f++) {
+        struct lent s = good(), old = good();
+        s.counts[PULSE_CLOUD] = 1;
+        call(f, &s);
+        size_t sections = f == BAND_PASS ? 3 : 1;
+        check(s.counts[PULSE_SECTIONS] == sections && s.counts[PULSE_HAS_FIRST] == (f != BAND_PASS) && s.counts[PULSE_CLOUD] == 0, "counts of a design");
+        for (size_t i = 0; i < PULSE_NUMBERS_LEN; i++) {
+            int is_first = i >= PULSE_FIRST_B0;
+            int is_carried = is_first ? i == PULSE_FIRST_W : i % PULSE_SECTION_LEN >= PULSE_W1;
+            int is_used = is_first ? f != BAND_PASS : i < PULSE_SECTION_LEN * sections;
+            check(is_plus_zero(s.numbers[i]) || (is_used && !is_carried), "unused parts and carried values of a design are +0");
+        }
+        check(memcmp(s.numbers + PULSE_NUMBERS_LEN, old.numbers + PULSE_NUMBERS_LEN, 8 * sizeof(double)) == 0, "places behind the numbers");
+    }
+}
+
+/* Three taps: the places behind them, and all samples, are +0. */
+static void three_taps(const struct lent *s, size_t window) {
+    check(s->fir_counts[PULSE_LENGTH] == 3 && s->fir_counts[PULSE_HELD] == 0 && s->fir_counts[PULSE_WINDOW] == window, "counts of new taps");
+    for (size_t i = 0; i < PULSE_TAPS_LEN; i++)
+        check(is_plus_zero(s->samples[i]) && (i < 3 || is_plus_zero(s->taps[i])), "places behind new taps, and samples, are +0");
+    check(s->taps[PULSE_TAPS_LEN] == good().taps[PULSE_TAPS_LEN] && s->samples[PULSE_SAMPLES_LEN] == good().samples[PULSE_SAMPLES_LEN], "places behind the slices");
+}
+
+static void tap_places(void) {
+    struct lent s = good();
+    call(FIR_COEFFS, &s);
+    check(s.taps[0] == 2 && s.taps[1] == 1 && s.taps[2] == 0, "ready-made taps");
+    three_taps(&s, PULSE_READY_MADE);
+    s = good();
+    call(FIR_DESIGN, &s);
+    three_taps(&s, PULSE_HAMMING);
+}
+
+/* An answer that overflows from a finite sample is Clear. */
+static void overflow(void) {
+    struct lent s = good();
+    s.numbers[PULSE_B0] = s.taps[0] = s.x = 1e308;
+    call(CASCADE_STEP, &s);
+    check(isinf(s.answer[0]) && s.clouded[0] == 0 && s.counts[PULSE_CLOUD] == 0, "a cascade's answer that overflows is Clear");
+    call(FIR_STEP, &s);
+    check(isinf(s.answer[0]) && s.clouded[0] == 0, "a FIR's answer that overflows is Clear");
+}
+
+static void cascade_places(void) {
+    struct lent s = good(), old = good();
+    call(CASCADE_STEP, &s);
+    for (size_t i = 0; i < 40; i++) {
+        int moves = i == PULSE_W1 || i == PULSE_W2 || i == 7 + PULSE_W1 || i == 7 + PULSE_W2 || i == PULSE_FIRST_W;
+        check((s.numbers[i] != old.numbers[i]) == moves, "a step moves the carried values of the used parts alone");
+    }
+    check(s.clouded[0] == 0 && s.counts[PULSE_CLOUD] == 0 && s.answer[0] != 77 && s.answer[1] == 77, "a Clear step");
+    s.input[1] = INFINITY;
+    call(CASCADE_BLOCK, &s);
+    check(s.clouded[0] == 2 && s.counts[PULSE_CLOUD] == 1, "Clouded from the sample that is not finite on");
+    check(isfinite(s.output[0]) && !isfinite(s.output[1]) && !isfinite(s.output[2]) && s.output[3] == 1003, "output of a block");
+    s.length[INPUT] = 0;
+    old = s;
+    old.clouded[0] = 0;
+    call(CASCADE_BLOCK, &s);
+    check(memcmp(&s, &old, sizeof s) == 0, "an empty block");
+    call(CASCADE_RESET, &s);
+    for (size_t i = 0; i < PULSE_NUMBERS_LEN; i++) {
+        int is_carried = i == PULSE_FIRST_W || (i < PULSE_FIRST_B0 && i % PULSE_SECTION_LEN >= PULSE_W1);
+        check(is_carried ? is_plus_zero(s.numbers[i]) : s.numbers[i] == good().numbers[i], "a reset");
+    }
+    check(s.counts[PULSE_SECTIONS] == 2 && s.counts[PULSE_HAS_FIRST] == 1 && s.counts[PULSE_CLOUD] == 0, "counts of a reset cascade");
+}
+
+/* Taps 0.25, 0.125, 0.25 / 3; samples 1, 2 and behind them 3. */
+static void fir_places(void) {
+    struct lent s = good(), old = good();
+    call(FIR_STEP, &s);
+    check(s.samples[0] == 1.5 && s.samples[1] == 1 && s.samples[2] == 2 && s.samples[3] == 4, "a step moves the samples of the first three places");
+    check(s.fir_counts[PULSE_HELD] == 3 && s.clouded[0] == 0 && s.answer[0] == (0.25 * 1.5 + 0.125 * 1) + 0.25 / 3 * 2, "a step");
+    s = good();
+    s.fir_counts[PULSE_HELD] = 0;
+    s.samples[1] = NAN;
+    call(FIR_STEP, &s);
+    check(s.answer[0] == 0.375 && s.clouded[0] == 0 && s.samples[1] == 1 && isnan(s.samples[2]) && s.fir_counts[PULSE_HELD] == 1, "a step that holds its sample alone");
+    s.input[1] = NAN;
+    s.length[INPUT] = 5;
+    call(FIR_BLOCK, &s);
+    check(s.clouded[0] == 3 && s.fir_counts[PULSE_HELD] == 3 && s.samples[0] == -2 && s.samples[2] == 0, "Clouded while the sample is held");
+    check(isfinite(s.output[0]) && isnan(s.output[3]) && isfinite(s.output[4]) && s.output[5] == 1005, "output of a block");
+    s.length[INPUT] = 0;
+    old = s;
+    old.clouded[0] = 0;
+    call(FIR_BLOCK, &s);
+    check(memcmp(&s, &old, sizeof s) == 0, "an empty block");
+    call(FIR_RESET, &s);
+    for (size_t i = 0; i < PULSE_SAMPLES_LEN; i++)
+        check(is_plus_zero(s.samples[i]) && s.taps[i] == good().taps[i], "a reset");
+    check(s.samples[64] == 65 && s.fir_counts[PULSE_LENGTH] == 3 && s.fir_counts[PULSE_HELD] == 0 && s.fir_counts[PULSE_WINDOW] == 4, "counts of a reset FIR");
+}
+
+int main(void) {
+    wrong_lengths();
+    damaged_states();
+    refused_designs();
+    designed_places();
+    tap_places();
+    cascade_places();
+    fir_places();
+    overflow();
+    printf("states: %u tried, %u otherwise than expected\n", tried, failed);
+    return failed ? 1 : 0;
+}

@@ -1,0 +1,263 @@
+/* Deliberately wrong archives, to see that the tests can fail: stands before the archive's functions (the linker's --wrap)
+ * and spoils one thing, by the number in the environment variable WRONG; without it nothing is spoiled. tests/capi/run
+ * links the tests with this too, and each number below WRONGS must make them fail. */
+#include "pulse.h"
+#include <math.h>
+#include <stdlib.h>
+#include <string.h>
+
+enum wrong {
+    NOTHING,
+    STEP_LAST_BIT,          /* a cascade's answer is the next number */
+    STEP_MARK_CLEAR,        /* a cascade's step is never Clouded */
+    STEP_REFUSED_ANSWERS,   /* a refused step makes the answer 0 */
+    BLOCK_FIRST_ONLY,       /* a block answers the first sample and copies the rest */
+    BLOCK_COUNT,            /* a block counts all its answers Clouded */
+    BLOCK_WRITES_BEHIND,    /* a block writes one place behind its answers */
+    BLOCK_REFUSED_COUNTS,   /* a refused block makes the count 0 */
+    BLOCK_SHORT_FIRST,      /* 5 before 11 */
+    BLANK_PASSES,           /* a cascade without parts answers the sample itself */
+    RESET_KEEPS_CLOUD,
+    RESET_TAKES_BAD,        /* a reset of a bad cascade returns 0 */
+    FLAG_TRUNCATED,         /* flags are taken modulo 256 */
+    COUNT_TRUNCATED,        /* the section count is taken modulo 2^32 */
+    LENGTH_IGNORED,         /* a longer `numbers` is accepted */
+    LOW_IS_HIGH,            /* the low pass is the high pass */
+    RATE_AFTER_CUTOFF,      /* 2 before 3 */
+    REFUSED_BLANKS,         /* a refused design writes the blank record */
+    UNUSED_IDENTITY,        /* unused sections of a design have b0 = 1, as in the Rust */
+    BAND_SWAPPED,           /* the first two sections of a band pass are swapped */
+    BAND_RATE_FIRST,        /* 3 before 2 in a band pass */
+    RIPPLE_FIRST,           /* 4 before 1 */
+    STOPBAND_LAST_BIT,      /* a coefficient of Chebyshev II is the next number */
+    DESIGN_KEEPS_CLOUD,
+    FIR_WINDOW_CODE,        /* the window code of a design is 4 */
+    FIR_WINDOW_4,           /* window code 4 is taken as 0 */
+    FIR_TAP_LAST_BIT,       /* tap 0 of a design is the next number */
+    COEFFS_64,              /* 64 ready-made taps are refused */
+    COEFFS_KEEP_BEHIND,     /* places behind ready-made taps keep what they held */
+    FIR_HELD_STAYS,         /* the held count stays */
+    FIR_MOVES_HELD_ONLY,    /* a step leaves the places behind the held samples */
+    FIR_MARK_OWN,           /* a step is Clouded by its own sample only */
+    FIR_STAYS_CLOUDED,      /* a FIR's steps are Clouded until the reset */
+    FIR_BLOCK_COUNT_OWN,    /* a block counts its own samples that are not finite */
+    FIR_BLOCK_SHORT_FIRST,  /* 5 before 12 */
+    FIR_BLOCK_SHORT_WRITES, /* a short output gets what fits */
+    FIR_BLOCK_RESETS,       /* a block starts from no held sample */
+    FIR_RESET_KEEPS,        /* a reset leaves the samples */
+    FIR_RESET_CODE,         /* a reset makes the window code 0 */
+    WINDOW_5,               /* a record with window code 5 is accepted */
+    HELD_ABOVE,             /* a held count above the length is taken as the length */
+    WRONGS
+};
+
+static int is(enum wrong w) {
+    static int asked = -1;
+    if (asked < 0)
+        asked = getenv("WRONG") ? atoi(getenv("WRONG")) : 0;
+    if (asked >= WRONGS)
+        exit(3); /* there is no such number */
+    return asked == (int)w;
+}
+
+#define REAL(name, ...) uint8_t __real_##name(__VA_ARGS__); uint8_t __wrap_##name(__VA_ARGS__); uint8_t __wrap_##name(__VA_ARGS__)
+#define CASCADE double *n, size_t nl, size_t *c, size_t cl
+#define TAP_RECORD double *s, size_t sl, size_t *c, size_t cl
+#define BLOCK const double *in, size_t il, double *out, size_t ol, size_t *k, size_t kl
+
+static double next(double x) { return nextafter(x, INFINITY); }
+
+/* What all designs of a cascade may do wrong. */
+static uint8_t designed(uint8_t number, CASCADE, size_t cloud) {
+    if (number && nl == 32 && cl == 3 && is(REFUSED_BLANKS)) {
+        memset(n, 0, nl * sizeof *n);
+        memset(c, 0, cl * sizeof *c);
+    }
+    if (!number && is(UNUSED_IDENTITY))
+        for (size_t i = c[0]; i < 4; i++)
+            n[7 * i] = 1;
+    if (!number && is(DESIGN_KEEPS_CLOUD))
+        c[2] = cloud;
+    return number;
+}
+
+REAL(pulse_design_butterworth_hp, size_t order, double cutoff, double rate, CASCADE) {
+    size_t cloud = cl == 3 ? c[2] : 0;
+    return designed(__real_pulse_design_butterworth_hp(order, cutoff, rate, n, nl, c, cl), n, nl, c, cl, cloud);
+}
+
+REAL(pulse_design_butterworth_lp, size_t order, double cutoff, double rate, CASCADE) {
+    size_t cloud = cl == 3 ? c[2] : 0;
+    if (is(LOW_IS_HIGH))
+        return __real_pulse_design_butterworth_hp(order, cutoff, rate, n, nl, c, cl);
+    uint8_t number = __real_pulse_design_butterworth_lp(order, cutoff, rate, n, nl, c, cl);
+    if (number == 3 && !(cutoff > 0) && is(RATE_AFTER_CUTOFF))
+        return 2;
+    return designed(number, n, nl, c, cl, cloud);
+}
+
+REAL(pulse_design_butterworth_bp, size_t order, double low, double high, double rate, CASCADE) {
+    size_t cloud = cl == 3 ? c[2] : 0;
+    uint8_t number = __real_pulse_design_butterworth_bp(order, low, high, rate, n, nl, c, cl);
+    if (number == 2 && !(rate > 0) && is(BAND_RATE_FIRST))
+        return 3;
+    if (!number && order > 1 && is(BAND_SWAPPED)) {
+        double first[7];
+        memcpy(first, n, sizeof first);
+        memcpy(n, n + 7, sizeof first);
+        memcpy(n + 7, first, sizeof first);
+    }
+    return designed(number, n, nl, c, cl, cloud);
+}
+
+REAL(pulse_design_chebyshev1_lp, size_t order, double cutoff, double decibels, double rate, CASCADE) {
+    size_t cloud = cl == 3 ? c[2] : 0;
+    uint8_t number = __real_pulse_design_chebyshev1_lp(order, cutoff, decibels, rate, n, nl, c, cl);
+    if (number == 1 && !(decibels > 0) && is(RIPPLE_FIRST))
+        return 4;
+    return designed(number, n, nl, c, cl, cloud);
+}
+
+REAL(pulse_design_chebyshev2_lp, size_t order, double cutoff, double decibels, double rate, CASCADE) {
+    size_t cloud = cl == 3 ? c[2] : 0;
+    uint8_t number = __real_pulse_design_chebyshev2_lp(order, cutoff, decibels, rate, n, nl, c, cl);
+    if (!number && is(STOPBAND_LAST_BIT))
+        n[4] = next(n[4]);
+    return designed(number, n, nl, c, cl, cloud);
+}
+
+/* What all runs of a cascade may take for good. */
+static void take(size_t *nl, size_t *c, size_t cl) {
+    if (*nl == 33 && is(LENGTH_IGNORED))
+        *nl = 32;
+    if (cl != 3)
+        return;
+    if (is(FLAG_TRUNCATED))
+        c[1] &= 255;
+    if (is(COUNT_TRUNCATED))
+        c[0] &= 0xFFFFFFFFu;
+}
+
+REAL(pulse_cascade_step, CASCADE, double x, double *a, size_t al, size_t *k, size_t kl) {
+    take(&nl, c, cl);
+    uint8_t number = __real_pulse_cascade_step(n, nl, c, cl, x, a, al, k, kl);
+    if (number == 11 && c[0] == 0 && is(BLANK_PASSES)) {
+        a[0] = x;
+        return 0;
+    }
+    if (number && al && is(STEP_REFUSED_ANSWERS))
+        a[0] = 0;
+    if (!number && is(STEP_LAST_BIT))
+        a[0] = next(a[0]);
+    if (!number && is(STEP_MARK_CLEAR))
+        k[0] = 0;
+    return number;
+}
+
+REAL(pulse_cascade_block, CASCADE, BLOCK) {
+    take(&nl, c, cl);
+    uint8_t number = __real_pulse_cascade_block(n, nl, c, cl, in, il, out, ol, k, kl);
+    if (number && kl && is(BLOCK_REFUSED_COUNTS))
+        k[0] = 0;
+    if (number == 11 && ol < il && is(BLOCK_SHORT_FIRST))
+        return 5;
+    if (number)
+        return number;
+    if (il > 1 && is(BLOCK_FIRST_ONLY))
+        memcpy(out + 1, in + 1, (il - 1) * sizeof *out);
+    if (is(BLOCK_COUNT))
+        k[0] = il;
+    if (ol > il && is(BLOCK_WRITES_BEHIND))
+        out[il] = 0;
+    return 0;
+}
+
+REAL(pulse_cascade_reset, CASCADE) {
+    take(&nl, c, cl);
+    size_t cloud = cl == 3 ? c[2] : 0;
+    uint8_t number = __real_pulse_cascade_reset(n, nl, c, cl);
+    if (!number && is(RESET_KEEPS_CLOUD))
+        c[2] = cloud;
+    return number == 11 && is(RESET_TAKES_BAD) ? 0 : number;
+}
+
+REAL(pulse_design_fir_lp, size_t taps, double cutoff, size_t window, double *t, size_t tl, TAP_RECORD) {
+    uint8_t number = __real_pulse_design_fir_lp(taps, cutoff, window == 4 && is(FIR_WINDOW_4) ? 0 : window, t, tl, s, sl, c, cl);
+    if (!number && is(FIR_WINDOW_CODE))
+        c[2] = 4;
+    if (!number && is(FIR_TAP_LAST_BIT))
+        t[0] = next(t[0]);
+    return number;
+}
+
+REAL(pulse_fir_from_coeffs, const double *v, size_t vl, double *t, size_t tl, TAP_RECORD) {
+    double old[64];
+    if (vl == 64 && tl == 64 && sl == 64 && cl == 3 && is(COEFFS_64))
+        return 1;
+    memcpy(old, t, (tl < 64 ? tl : 64) * sizeof *t);
+    uint8_t number = __real_pulse_fir_from_coeffs(v, vl, t, tl, s, sl, c, cl);
+    if (!number && is(COEFFS_KEEP_BEHIND))
+        memcpy(t + vl, old + vl, (64 - vl) * sizeof *t);
+    return number;
+}
+
+/* Whether a step since the last reset met a sample that was not finite. */
+static int met;
+
+/* What all runs of a FIR may take for good. */
+static void take_taps(size_t *c, size_t cl) {
+    if (cl == 3 && c[2] == 5 && is(WINDOW_5))
+        c[2] = 4;
+    if (cl == 3 && c[1] > c[0] && is(HELD_ABOVE))
+        c[1] = c[0];
+}
+
+REAL(pulse_fir_step, const double *t, size_t tl, TAP_RECORD, double x, double *a, size_t al, size_t *k, size_t kl) {
+    double old[64];
+    take_taps(c, cl);
+    size_t held = cl == 3 ? c[1] : 0;
+    memcpy(old, s, (sl < 64 ? sl : 64) * sizeof *s);
+    uint8_t number = __real_pulse_fir_step(t, tl, s, sl, c, cl, x, a, al, k, kl);
+    if (number)
+        return number;
+    if (is(FIR_HELD_STAYS))
+        c[1] = held;
+    if (is(FIR_MOVES_HELD_ONLY))
+        memcpy(s + c[1], old + c[1], (64 - c[1]) * sizeof *s);
+    if (is(FIR_MARK_OWN))
+        k[0] = !isfinite(x);
+    met |= !isfinite(x);
+    if (is(FIR_STAYS_CLOUDED))
+        k[0] = (size_t)met;
+    return 0;
+}
+
+REAL(pulse_fir_block, const double *t, size_t tl, TAP_RECORD, BLOCK) {
+    take_taps(c, cl);
+    if (cl == 3 && il && ol >= il && c[0] && c[0] <= 64 && c[1] <= c[0] && is(FIR_BLOCK_RESETS))
+        c[1] = 0;
+    uint8_t number = __real_pulse_fir_block(t, tl, s, sl, c, cl, in, il, out, ol, k, kl);
+    if (number == 12 && ol < il && is(FIR_BLOCK_SHORT_FIRST))
+        return 5;
+    if (number == 5 && is(FIR_BLOCK_SHORT_WRITES))
+        memset(out, 0, ol * sizeof *out);
+    if (number || !is(FIR_BLOCK_COUNT_OWN))
+        return number;
+    k[0] = 0;
+    for (size_t i = 0; i < il; i++)
+        k[0] += !isfinite(in[i]);
+    return 0;
+}
+
+REAL(pulse_fir_reset, const double *t, size_t tl, TAP_RECORD) {
+    double old[64];
+    take_taps(c, cl);
+    memcpy(old, s, (sl < 64 ? sl : 64) * sizeof *s);
+    met = 0;
+    uint8_t number = __real_pulse_fir_reset(t, tl, s, sl, c, cl);
+    if (!number && is(FIR_RESET_KEEPS))
+        memcpy(s, old, sizeof old);
+    if (!number && is(FIR_RESET_CODE))
+        c[2] = 0;
+    return number;
+}
