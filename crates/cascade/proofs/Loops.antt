@@ -1,55 +1,15 @@
--- The loops over the sections, at every format, whatever type the code has for a section. Assumes nothing.
+-- The loop that resets the sections, whatever type the code has for a section. Assumes nothing.
 use mathlib.Core.Path.{_≡_, refl, sym, ap, _∙_}
 use mathlib.Core.List.{List, [], _∷_, map}
 use Prim.Native.Nat.{ℕ, zero, suc, _+_, _<_, _≤_}
 use native.Mathlib.Numerals.{add-one}
 use native.Mathlib.Omega.{arith}
 use lib.ListN.{length, getD, set, length-map, List·getD-map}
-use lib.Ieee.{Float, Format}
-use Rattle.sections.specs.Section.{Biquad, sectionOut, sectionNext}
-use Rattle.cascade.specs.Cascade.{sectionsOut, sectionsNext}
 
 pub map-set : {A B : Type 0} (g : A → B) (l : List A) (i : ℕ) (a : A) → map g (set l i a) ≡ set (map g l) i (g a)
 map-set g [] i a = refl
 map-set g (x ∷ l) zero a = refl
 map-set g (x ∷ l) (suc i) a = ap (λ (t : List _). g x ∷ t) (map-set g l i a)
-
-module _ (f : Format) where
-  -- one section more
-  pub out-more : (n : ℕ) (ss : List Biquad) (x : Float) (d : Biquad) → n < length ss
-      → sectionsOut f (suc n) ss x ≡ sectionOut f (getD ss n d) (sectionsOut f n ss x)
-  out-more zero [] x d h = absurd (omega arith)
-  out-more zero (s ∷ ss) x d h = refl
-  out-more (suc n) [] x d h = absurd (omega arith)
-  out-more (suc n) (s ∷ ss) x d h = out-more n ss (sectionOut f s x) d (omega arith)
-
-  pub next-more : (n : ℕ) (ss : List Biquad) (x : Float) (d : Biquad) → n < length ss
-      → sectionsNext f (suc n) ss x ≡ set (sectionsNext f n ss x) n (sectionNext f (getD ss n d) (sectionsOut f n ss x))
-  next-more zero [] x d h = absurd (omega arith)
-  next-more zero (s ∷ ss) x d h = refl
-  next-more (suc n) [] x d h = absurd (omega arith)
-  next-more (suc n) (s ∷ ss) x d h = ap (λ (t : List Biquad). sectionNext f s x ∷ t) (next-more n ss (sectionOut f s x) d (omega arith))
-
-  -- sections from the n-th on are left
-  pub next-left : (n : ℕ) (ss : List Biquad) (x : Float) (d : Biquad) → getD (sectionsNext f n ss x) n d ≡ getD ss n d
-  next-left zero ss x d = refl
-  next-left (suc n) [] x d = refl
-  next-left (suc n) (s ∷ ss) x d = next-left n ss (sectionOut f s x) d
-
-  -- a turn of the loop over the sections, whatever record the code has for a section
-  module _ {A : Type 0} (view : A → Biquad) (old kept : List A) (i : ℕ) (x y : Float) (d : A) (h : i < length old)
-      (outs : y ≡ sectionsOut f i (map view old) x) (nexts : map view kept ≡ sectionsNext f i (map view old) x) where
-    at-turn : view (getD kept i d) ≡ getD (map view old) i (view d)
-    at-turn = sym (List·getD-map view kept i d) ∙ ap (λ (l : List Biquad). getD l i (view d)) nexts ∙ next-left i (map view old) x (view d)
-
-    there : i < length (map view old)
-    there = simp length-map (omega arith)
-
-    pub turn-out : {o : Float} → o ≡ sectionOut f (view (getD kept i d)) y → o ≡ sectionsOut f (i + 1) (map view old) x
-    turn-out {o} e = rw (add-one, out-more i (map view old) x (view d) there, ← at-turn, ← outs) e
-
-    pub turn-next : {s : A} → view s ≡ sectionNext f (view (getD kept i d)) y → map view (set kept i s) ≡ sectionsNext f (i + 1) (map view old) x
-    turn-next {s} e = rw (add-one, next-more i (map view old) x (view d) there, map-set, nexts, e, at-turn, outs)
 
 -- ---- a list whose first n elements are mapped
 

@@ -7,7 +7,7 @@ ghost use mathlib.Core.List.{map};
 ghost use Prim.Native.Nat.{_≤_};
 ghost use lib.Ieee.{binary64};
 ghost use Rattle.runs.specs.Runs.{step, reset, block};
-ghost use Rattle.sections.specs.Section.{clearedBiquad};
+ghost use Rattle.sections.specs.Section.{clearedBiquad, sectionOut, sectionNext};
 ghost use Rattle.sections.specs.FirstOrder.{firstOut, firstNext};
 ghost use Rattle.sections.specs.View.{sectionView, firstView};
 ghost use Rattle.cascade.specs.Cascade.{sectionsOut, sectionsNext, value, moved, clouding, next, checkCascade, blankCascade, cascade};
@@ -15,6 +15,7 @@ ghost use Rattle.cascade.specs.View.{cascadeView, updatedView, resetView
 use runs::Answer;
 use sections::FirstOrder;
 use sections::FirstProcessed;
+use sections::Processed;
 use sections::Section;
 
 pub struct Cascade {
@@ -71,26 +72,35 @@ fn enter(has_first: bool, first: FirstOrder, x: f64) -> FirstProcessed
     }
 }
 
-// A sample through the first `count` sections, from section 0 upward.
+// A sample through a section where it is used.
+fn turn(used: bool, section: Section, x: f64) -> Processed
+    ensures { λ r. ⌜ (r .out ≡ cond used (sectionOut binary64 (sectionView section) x) x)
+        × (sectionView (r .section) ≡ cond used (sectionNext binary64 (sectionView section) x) (sectionView section)) ⌝ }
+{
+    if used {
+        section.process(x)
+    } else {
+        Processed { out: x, section }
+    }
+}
+
+// A sample through the first `count` sections, from section 0 upward: four turns, so that no place depends on the count.
 fn pass_sections(sections: [Section; 4], count: usize, x: f64) -> Through
     requires { ⌜ count ≤ 4 ⌝ }
     ensures { λ r. ⌜ (r .out ≡ sectionsOut binary64 count (map sectionView sections) x)
         × (map sectionView (r .sections) ≡ sectionsNext binary64 count (map sectionView sections) x) ⌝ }
 {
-    let mut kept = sections;
-    let mut y = x;
-    let mut i: usize = 0;
-    while i < count {
-        let s = kept[i];
-        let p = s.process(y);
-        y = p.out;
-        let t = p.section;
-        kept[i] = t;
-        i += 1;
-    }
+    let p0 = turn(count > 0, sections[0], x);
+    let p1 = turn(count > 1, sections[1], p0.out);
+    let p2 = turn(count > 2, sections[2], p1.out);
+    let p3 = turn(count > 3, sections[3], p2.out);
+    let s0 = p0.section;
+    let s1 = p1.section;
+    let s2 = p2.section;
+    let s3 = p3.section;
     Through {
-        out: y,
-        sections: kept,
+        out: p3.out,
+        sections: [s0, s1, s2, s3],
     }
 }
 

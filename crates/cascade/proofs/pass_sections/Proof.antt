@@ -1,76 +1,58 @@
--- `cascade::pass_sections` meets its contract. The loop's invariant: what came out of the first i sections, and the sections after it. The measure is how many
--- are left. Assumes nothing.
-use mathlib.Core.Path.{_≡_, _∙_}
-use mathlib.Core.List.{map}
-use Prim.Native.Nat.{_≤_, _<_, _-_}
+-- `cascade::pass_sections` meets its contract: four turns. Assumes nothing.
+use mathlib.Core.Path.{_≡_}
 use native.Mathlib.Omega.{arith}
-use borrow.Author.Needs.{needs}
 use lib.ListN.{length}
 use lib.Ieee.{binary64}
-use Rattle.cascade.specs.Cascade.{sectionsOut, sectionsNext}
 use Rattle.sections.specs.View.{sectionView}
-use Rattle.cascade.proofs.Loops.{turn-out, turn-next}
+use Rattle.cascade.proofs.Turns.{four-turns}
+use borrow.Author.Needs.{needs}
 use Rattle.cascade.proofs.pass_sections.Statement.{statement}
 use Rattle.cascade.proofs.pass_sections.Tie as tie
 
-abbrev Inv-loop : tie.InvT-loop
-Inv-loop count x kept₀ y₀ i₀ kept y i = (i ≤ count) × (y ≡ sectionsOut binary64 i (map sectionView kept₀) y₀) × (map sectionView kept ≡ sectionsNext binary64 i (map sectionView kept₀) y₀)
+array-copy-out-turn : tie.Need-array-copy-out-turn
+array-copy-out-turn c = search needs
 
-abbrev μ-loop : tie.MeasureT-loop
-μ-loop count x kept₀ y₀ i₀ kept y i = count - i
+turn-requires : tie.Need-turn-requires
+turn-requires c κs = search needs
 
-loop-holds : tie.Need-loop-holds Inv-loop μ-loop
-loop-holds c = search needs
+array-copy-out-turn-2 : tie.Need-array-copy-out-turn-2
+array-copy-out-turn-2 c = search needs
 
-mul-s : tie.Need-mul-s Inv-loop μ-loop
-mul-s c = search needs
+turn-requires-2 : tie.Need-turn-requires-2
+turn-requires-2 c κs = search needs
 
-array-copy-out-s : tie.Need-array-copy-out-s Inv-loop μ-loop
-array-copy-out-s c = search needs
+array-copy-out-turn-3 : tie.Need-array-copy-out-turn-3
+array-copy-out-turn-3 c = search needs
 
-process-requires : tie.Need-process-requires Inv-loop μ-loop
-process-requires c κs = search needs
+turn-requires-3 : tie.Need-turn-requires-3
+turn-requires-3 c κs = search needs
 
-mul-kept : tie.Need-mul-kept Inv-loop μ-loop
-mul-kept c = search needs
+array-copy-out-turn-4 : tie.Need-array-copy-out-turn-4
+array-copy-out-turn-4 c = search needs
 
-array-set-from-kept : tie.Need-array-set-from-kept Inv-loop μ-loop
-array-set-from-kept c = search needs
+turn-requires-4 : tie.Need-turn-requires-4
+turn-requires-4 c κs = search needs
 
-add-i : tie.Need-add-i Inv-loop μ-loop
-add-i c = search needs
-
-loop-less : tie.Need-loop-less Inv-loop μ-loop
-loop-less c = search needs
-
-loop-again : tie.Need-loop-again Inv-loop μ-loop
-loop-again c = let at = c .before .before .before .before in
-    let st = at .before in
-    let h : at .loop .i < length (st .args .sections) = omega (arith, st .good .0 .1 .0 .1) in
-    let p = c .before .process .ensures in (
-      omega arith,
-      turn-out binary64 sectionView (st .args .sections) (at .loop .kept) (at .loop .i) (st .args .x) (at .loop .y) _ h (at .loop .inv .1) (at .loop .inv .2) (p .0),
-      turn-next binary64 sectionView (st .args .sections) (at .loop .kept) (at .loop .i) (st .args .x) (at .loop .y) _ h (at .loop .inv .1) (at .loop .inv .2) (p .1),
-    )
-
-returns : tie.Need-returns Inv-loop μ-loop
-returns c = let at = c .before in
-    let e : at .loop .i ≡ at .before .args .count = omega arith in
-    (at .loop .inv .1 ∙ rw e, at .loop .inv .2 ∙ rw e)
+returns : tie.Need-returns
+returns c = let s = c .before .before .before .before .before .before .before .before .before .before .before .before in
+    let four : length (s .args .t1) ≡ 4 = omega (arith, s .good .0 .1 .0 .1) in
+    let p = c .before .before .before .before .before .before .before .before .before .before .turn .ensures in
+    let q = c .before .before .before .before .before .before .before .before .turn2 .ensures in
+    let r = c .before .before .before .before .before .before .turn3 .ensures in
+    let t = c .before .before .before .before .turn4 .ensures in
+    four-turns binary64 sectionView (s .args .t1) _ (s .args .count) (s .args .x) four (s .pre) (record { out = p .0; next = p .1 }) (record { out = q .0; next = q .1 }) (record { out = r .0; next = r .1 })
+    (record { out = t .0; next = t .1 })
 
 pub pass-sections-spec : {M : Type 1} → statement M
 pass-sections-spec =
     tie.close
     (tie.spec
-    Inv-loop
-    μ-loop
-    loop-holds
-    mul-s
-    array-copy-out-s
-    process-requires
-    mul-kept
-    array-set-from-kept
-    add-i
-    loop-less
-    loop-again
+    array-copy-out-turn
+    turn-requires
+    array-copy-out-turn-2
+    turn-requires-2
+    array-copy-out-turn-3
+    turn-requires-3
+    array-copy-out-turn-4
+    turn-requires-4
     returns)

@@ -12,7 +12,11 @@ pass-sections-requires c κs = search needs
 
 returns : tie.Need-returns
 unfolding value moved
-returns c = (cc, cc)
+returns c =
+    let e = c .before .before .before .before in (
+      rw (c .before .pass-sections .ensures .0, e .enter .ensures .0),
+      rw (c .before .pass-sections .ensures .1, e .enter .ensures .1, e .enter .ensures .0),
+    )
 
 pub moved-spec : {M : Type 1} → statement M
 moved-spec = tie.close (tie.spec enter-requires pass-sections-requires returns)
