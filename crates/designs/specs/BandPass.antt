@@ -5,7 +5,7 @@ use mathlib.Core.List.{List, [], _∷_, _++_}
 use lib.Dec.{eqb}
 use lib.Ieee.{Float}
 use Rattle.scalar.specs.Operators.{_⊖_, _⊗_}
-use Rattle.scalar.specs.Trigonometric.{sinOf, cosOf}
+use Rattle.elementary.specs.Trigonometric.{sinOf, cosOf}
 use Rattle.sections.specs.Section.{Biquad}
 use Rattle.sections.specs.FirstOrder.{blankFirst}
 use Rattle.cascade.specs.Cascade.{CascadeRecord}

@@ -35,7 +35,7 @@ fn angle(order: usize, m: usize) -> f64
 pub(crate) fn warp(cutoff: f64, sample_rate: f64) -> f64
     ensures { λ r. ⌜ r ≡ warped cutoff «sample_rate» ⌝ }
 {
-    scalar::tan(PI * cutoff / sample_rate)
+    elementary::tan(PI * cutoff / sample_rate)
 }
 
 // The low-pass section of pole pair m.
@@ -44,8 +44,8 @@ pub(crate) fn lp_section(order: usize, m: usize, k: f64) -> Section
     ensures { λ r. ⌜ sectionView r ≡ lpPair order m k ⌝ }
 {
     let a = angle(order, m);
-    let sigma = scalar::cos(a);
-    let omega_im = scalar::sin(a);
+    let sigma = elementary::cos(a);
+    let omega_im = elementary::sin(a);
     poles::lp_biquad_from_pole(sigma, omega_im, k)
 }
 
@@ -55,8 +55,8 @@ pub(crate) fn hp_section(order: usize, m: usize, k: f64) -> Section
     ensures { λ r. ⌜ sectionView r ≡ hpPair order m k ⌝ }
 {
     let a = angle(order, m);
-    let sigma = scalar::cos(a);
-    let omega_im = scalar::sin(a);
+    let sigma = elementary::cos(a);
+    let omega_im = elementary::sin(a);
     poles::hp_biquad_from_pole(sigma, omega_im, k)
 }
 
@@ -90,8 +90,8 @@ fn bp_pair(order: usize, m: usize, bw: f64, omega0_sq: f64) -> SectionPair
     ensures { λ r. ⌜ pairView r ≡ bpPairOf order bw «omega0_sq» m ⌝ }
 {
     let a = angle(order, m);
-    let sigma = scalar::cos(a);
-    let omega_im = scalar::sin(a);
+    let sigma = elementary::cos(a);
+    let omega_im = elementary::sin(a);
     poles::bp_biquads_from_lp_pole(sigma, omega_im, bw, omega0_sq)
 }
 
