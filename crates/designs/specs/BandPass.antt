@@ -9,7 +9,7 @@ use Rattle.elementary.specs.Trigonometric.{sinOf, cosOf}
 use Rattle.sections.specs.Section.{Biquad}
 use Rattle.sections.specs.FirstOrder.{blankFirst}
 use Rattle.cascade.specs.Cascade.{CascadeRecord}
-use Rattle.poles.specs.BandPass.{BiquadPair, bpPair, bpReal}
+use Rattle.bandpass.specs.BandPass.{BiquadPair, bpPair, bpReal}
 use Rattle.checks.specs.Checks.{validateBand}
 use Rattle.designs.specs.Design.{DesignRecord, unlessRefused, placed}
 use Rattle.designs.specs.Butterworth.{warped, angleOf}

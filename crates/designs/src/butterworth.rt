@@ -1,11 +1,11 @@
 // 000 butterworth.rs: the Butterworth low pass, high pass and band pass. Its checks stand in the crate checks, its pole
-// formulas in the crate poles, and its sections in the crate sections.
+// formulas in the crates poles and bandpass, and its sections in the crate sections.
 ghost use mathlib.Core.Path.{_≡_};
 ghost use mathlib.Core.List.{map};
 ghost use Prim.Native.Nat.{_<_, _≤_, _/_};
 ghost use Rattle.sections.specs.View.{sectionView};
 ghost use Rattle.cascade.specs.View.{cascadeView};
-ghost use Rattle.poles.specs.View.{pairView};
+ghost use Rattle.bandpass.specs.View.{pairView};
 ghost use Rattle.designs.specs.Design.{placed};
 ghost use Rattle.designs.specs.Butterworth.{angleOf, warped, lpPair, hpPair};
 ghost use Rattle.designs.specs.LowPass.{butterworthLp, butterworthHp};
@@ -15,10 +15,10 @@ use super::prototype::Prototype;
 use super::prototype::design_from_prototype;
 use super::returned::Design;
 use super::returned::refused;
+use bandpass::SectionPair;
 use cascade::Cascade;
 use checks::validate_band;
 use checks::validate_params;
-use poles::SectionPair;
 use scalar::PI;
 use sections::FirstOrder;
 use sections::Section;
@@ -92,7 +92,7 @@ fn bp_pair(order: usize, m: usize, bw: f64, omega0_sq: f64) -> SectionPair
     let a = angle(order, m);
     let sigma = elementary::cos(a);
     let omega_im = elementary::sin(a);
-    poles::bp_biquads_from_lp_pole(sigma, omega_im, bw, omega0_sq)
+    bandpass::bp_biquads_from_lp_pole(sigma, omega_im, bw, omega0_sq)
 }
 
 // The sections of all pole pairs, two each, and blank ones behind them.
@@ -122,7 +122,7 @@ fn bp_sections(order: usize, bw: f64, omega0_sq: f64) -> [Section; 4]
     if order % 2 == 0 {
         return sections;
     }
-    sections[order - 1] = poles::bp_biquad_from_lp_real_pole(bw, omega0_sq);
+    sections[order - 1] = bandpass::bp_biquad_from_lp_real_pole(bw, omega0_sq);
     sections
 }
 

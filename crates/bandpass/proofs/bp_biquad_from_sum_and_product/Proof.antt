@@ -1,8 +1,8 @@
--- `poles::butterworth::bp_biquad_from_sum_and_product` meets its contract. Assumes nothing.
-use Rattle.poles.specs.BandPass.{bandBiquad}
+-- `bandpass::bp_biquad_from_sum_and_product` meets its contract. Assumes nothing.
+use Rattle.bandpass.specs.BandPass.{bandBiquad}
 use borrow.Author.Needs.{needs}
-use Rattle.poles.proofs.butterworth.bp_biquad_from_sum_and_product.Statement.{statement}
-use Rattle.poles.proofs.butterworth.bp_biquad_from_sum_and_product.Tie as tie
+use Rattle.bandpass.proofs.bp_biquad_from_sum_and_product.Statement.{statement}
+use Rattle.bandpass.proofs.bp_biquad_from_sum_and_product.Tie as tie
 
 new-requires : tie.Need-new-requires
 new-requires c κs = search needs

@@ -1,8 +1,8 @@
--- `poles::butterworth::bp_biquad_from_lp_real_pole` meets its contract. Assumes nothing.
-use Rattle.poles.specs.BandPass.{bpReal}
+-- `bandpass::bp_biquad_from_lp_real_pole` meets its contract. Assumes nothing.
+use Rattle.bandpass.specs.BandPass.{bpReal}
 use borrow.Author.Needs.{needs}
-use Rattle.poles.proofs.butterworth.bp_biquad_from_lp_real_pole.Statement.{statement}
-use Rattle.poles.proofs.butterworth.bp_biquad_from_lp_real_pole.Tie as tie
+use Rattle.bandpass.proofs.bp_biquad_from_lp_real_pole.Statement.{statement}
+use Rattle.bandpass.proofs.bp_biquad_from_lp_real_pole.Tie as tie
 
 sqrt-requires : tie.Need-sqrt-requires
 sqrt-requires c κs = search needs

@@ -1,11 +1,11 @@
--- `poles::butterworth::imaginary_root` meets its contract. Assumes nothing.
+-- `bandpass::imaginary_root` meets its contract. Assumes nothing.
 use mathlib.Core.Path.{_∙_, ap, sym}
 use lib.Ieee.{lt}
 use Rattle.scalar.specs.Constants.{plusZero}
-use Rattle.poles.specs.BandPass.{imaginaryRoot}
+use Rattle.bandpass.specs.BandPass.{imaginaryRoot}
 use borrow.Author.Needs.{needs}
-use Rattle.poles.proofs.butterworth.imaginary_root.Statement.{statement}
-use Rattle.poles.proofs.butterworth.imaginary_root.Tie as tie
+use Rattle.bandpass.proofs.imaginary_root.Statement.{statement}
+use Rattle.bandpass.proofs.imaginary_root.Tie as tie
 
 abs-requires : tie.Need-abs-requires
 abs-requires c κs = search needs

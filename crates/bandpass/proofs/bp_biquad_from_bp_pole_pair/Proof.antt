@@ -1,8 +1,8 @@
--- `poles::butterworth::bp_biquad_from_bp_pole_pair` meets its contract. Assumes nothing.
-use Rattle.poles.specs.BandPass.{bpBiquad}
+-- `bandpass::bp_biquad_from_bp_pole_pair` meets its contract. Assumes nothing.
+use Rattle.bandpass.specs.BandPass.{bpBiquad}
 use borrow.Author.Needs.{needs}
-use Rattle.poles.proofs.butterworth.bp_biquad_from_bp_pole_pair.Statement.{statement}
-use Rattle.poles.proofs.butterworth.bp_biquad_from_bp_pole_pair.Tie as tie
+use Rattle.bandpass.proofs.bp_biquad_from_bp_pole_pair.Statement.{statement}
+use Rattle.bandpass.proofs.bp_biquad_from_bp_pole_pair.Tie as tie
 
 bp-biquad-from-sum-and-product-requires : tie.Need-bp-biquad-from-sum-and-product-requires
 bp-biquad-from-sum-and-product-requires c κs = search needs
