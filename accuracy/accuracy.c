@@ -1,4 +1,4 @@
-/* Measures the elementary functions of the crate `scalar` against the C library: for each, the largest error in units
+/* Measures the elementary functions against the C library: for each, the largest error in units
    of the last place (ulp) over random inputs, against the C library's long double result, which has 64 digits, and the
    largest distance to the C library's double result. The square root is compared with the machine's and must agree at
    every input. Usage: accuracy COUNT SEED */

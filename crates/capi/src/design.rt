@@ -50,7 +50,11 @@ pub extern "C" fn pulse_design_butterworth_lp(
     ensures { λ r. ⌜ record { refusal = r; numbers = now (numbers .exit); counts = now (counts .exit) }
         ≡ designCall (butterworthLp order cutoff «sample_rate») (now (numbers .entry)) (now (counts .entry)) ⌝ }
 {
-    hand_out(design_butterworth_lp(order, cutoff, sample_rate), numbers, counts)
+    hand_out(
+        design_butterworth_lp(order, cutoff, sample_rate),
+        numbers,
+        counts,
+    )
 }
 
 // A Butterworth high pass.
@@ -65,7 +69,11 @@ pub extern "C" fn pulse_design_butterworth_hp(
     ensures { λ r. ⌜ record { refusal = r; numbers = now (numbers .exit); counts = now (counts .exit) }
         ≡ designCall (butterworthHp order cutoff «sample_rate») (now (numbers .entry)) (now (counts .entry)) ⌝ }
 {
-    hand_out(design_butterworth_hp(order, cutoff, sample_rate), numbers, counts)
+    hand_out(
+        design_butterworth_hp(order, cutoff, sample_rate),
+        numbers,
+        counts,
+    )
 }
 
 // A Butterworth band pass.
@@ -81,7 +89,11 @@ pub extern "C" fn pulse_design_butterworth_bp(
     ensures { λ r. ⌜ record { refusal = r; numbers = now (numbers .exit); counts = now (counts .exit) }
         ≡ designCall (butterworthBp order low high «sample_rate») (now (numbers .entry)) (now (counts .entry)) ⌝ }
 {
-    hand_out(design_butterworth_bp(order, low, high, sample_rate), numbers, counts)
+    hand_out(
+        design_butterworth_bp(order, low, high, sample_rate),
+        numbers,
+        counts,
+    )
 }
 
 // A Chebyshev I low pass.
@@ -97,7 +109,11 @@ pub extern "C" fn pulse_design_chebyshev1_lp(
     ensures { λ r. ⌜ record { refusal = r; numbers = now (numbers .exit); counts = now (counts .exit) }
         ≡ designCall (chebyshev1Lp order cutoff «ripple_db» «sample_rate») (now (numbers .entry)) (now (counts .entry)) ⌝ }
 {
-    hand_out(design_chebyshev1_lp(order, cutoff, ripple_db, sample_rate), numbers, counts)
+    hand_out(
+        design_chebyshev1_lp(order, cutoff, ripple_db, sample_rate),
+        numbers,
+        counts,
+    )
 }
 
 // A Chebyshev II low pass.
@@ -113,7 +129,11 @@ pub extern "C" fn pulse_design_chebyshev2_lp(
     ensures { λ r. ⌜ record { refusal = r; numbers = now (numbers .exit); counts = now (counts .exit) }
         ≡ designCall (chebyshev2Lp order cutoff «stopband_db» «sample_rate») (now (numbers .entry)) (now (counts .entry)) ⌝ }
 {
-    hand_out(design_chebyshev2_lp(order, cutoff, stopband_db, sample_rate), numbers, counts)
+    hand_out(
+        design_chebyshev2_lp(order, cutoff, stopband_db, sample_rate),
+        numbers,
+        counts,
+    )
 }
 
 // Whether slices have the places of a tap record.
@@ -191,7 +211,12 @@ pub extern "C" fn pulse_design_fir_lp(
     if window > 3 {
         return runs::BAD_CALL;
     }
-    hand_out_taps(design_fir_lp(n, cutoff, window_of(window)), taps, samples, counts)
+    hand_out_taps(
+        design_fir_lp(n, cutoff, window_of(window)),
+        taps,
+        samples,
+        counts,
+    )
 }
 
 // Ready-made taps.

@@ -54,7 +54,15 @@ pub extern "C" fn pulse_fir_block(
     if counts.len() != 3 {
         return runs::BAD_CALL;
     }
-    let b = blocks::block(taps, samples, counts[0], counts[1], counts[2], input, output);
+    let b = blocks::block(
+        taps,
+        samples,
+        counts[0],
+        counts[1],
+        counts[2],
+        input,
+        output,
+    );
     let refusal = b.refusal;
     if refusal != 0 {
         return refusal;

@@ -7,8 +7,8 @@ use lib.Ieee.{Float, fin, up, down}
 use lib.Ieee.Positive.{positive}
 use Rattle.scalar.specs.Constants.{plusZero, one, two, half, pi, epsilon}
 use Rattle.claims.specs.declared.Constants.{Constants}
-use Rattle.scalar.specs.Whole.{nearestOf, NearestWhole}
-use Rattle.scalar.specs.Logarithm.{partsOf, Splits}
+use Rattle.elementary.specs.Whole.{nearestOf, NearestWhole}
+use Rattle.logarithm.specs.Logarithm.{partsOf, Splits}
 
 -- every finite x is the fraction m * up e / down e with the sign s
 pub record NearestIsNearest : Type 0 where

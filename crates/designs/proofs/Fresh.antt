@@ -18,7 +18,7 @@ use Rattle.checks.specs.Lists.{upTo}
 use Rattle.checks.proofs.Laws.{good-params, good-chebyshev, good-band}
 use Rattle.designs.specs.Design.{refusedDesign, accepted, unlessRefused, placed}
 use Rattle.poles.specs.Butterworth.{lpBiquad, hpBiquad, lpFirst, hpFirst}
-use Rattle.poles.specs.BandPass.{bandBiquad, bpBiquad, bpPair, bpReal}
+use Rattle.bandpass.specs.BandPass.{bandBiquad, bpBiquad, bpPair, bpReal}
 use Rattle.poles.specs.Chebyshev.{cheb1Biquad, cheb2Biquad, chebFirst}
 use Rattle.designs.specs.Butterworth.{warped, lpPair, hpPair}
 use Rattle.designs.specs.Chebyshev.{cheb1Pair, cheb2Pair}

@@ -5,11 +5,11 @@ use mathlib.Core.List.{List, [], _∷_, _++_}
 use lib.Dec.{eqb}
 use lib.Ieee.{Float}
 use Rattle.scalar.specs.Operators.{_⊖_, _⊗_}
-use Rattle.scalar.specs.Trigonometric.{sinOf, cosOf}
+use Rattle.elementary.specs.Trigonometric.{sinOf, cosOf}
 use Rattle.sections.specs.Section.{Biquad}
 use Rattle.sections.specs.FirstOrder.{blankFirst}
 use Rattle.cascade.specs.Cascade.{CascadeRecord}
-use Rattle.poles.specs.BandPass.{BiquadPair, bpPair, bpReal}
+use Rattle.bandpass.specs.BandPass.{BiquadPair, bpPair, bpReal}
 use Rattle.checks.specs.Checks.{validateBand}
 use Rattle.designs.specs.Design.{DesignRecord, unlessRefused, placed}
 use Rattle.designs.specs.Butterworth.{warped, angleOf}

@@ -3,7 +3,7 @@ use Prim.Native.Nat.{ℕ, _+_, _-_, _*_}
 use lib.Ieee.{Float}
 use Rattle.scalar.specs.Operators.{_⊗_, _⊘_, nat}
 use Rattle.scalar.specs.Constants.{pi}
-use Rattle.scalar.specs.Trigonometric.{sinOf, cosOf, tanOf}
+use Rattle.elementary.specs.Trigonometric.{sinOf, cosOf, tanOf}
 use Rattle.sections.specs.Section.{Biquad}
 use Rattle.poles.specs.Butterworth.{lpBiquad, hpBiquad}
 

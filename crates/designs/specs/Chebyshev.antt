@@ -5,9 +5,9 @@ use Rattle.ieee.specs.Sqrt.{sqrtOf}
 use Rattle.scalar.specs.Operators.{_⊕_, _⊖_, _⊗_, _⊘_, bits, nat}
 use Rattle.scalar.specs.Constants.{one, two, pi}
 use Rattle.scalar.specs.Sign.{absOf}
-use Rattle.scalar.specs.Trigonometric.{sinOf, cosOf}
-use Rattle.scalar.specs.Exponential.{pow10Of}
-use Rattle.scalar.specs.Hyperbolic.{sinhOf, coshOf, arcsinhOf}
+use Rattle.elementary.specs.Trigonometric.{sinOf, cosOf}
+use Rattle.elementary.specs.Exponential.{pow10Of}
+use Rattle.hyperbolic.specs.Hyperbolic.{sinhOf, coshOf, arcsinhOf}
 use Rattle.sections.specs.Section.{Biquad}
 use Rattle.poles.specs.Chebyshev.{cheb1Biquad, cheb2Biquad}
 use Rattle.designs.specs.declared.prototype.Prototype.{Prototype}

@@ -1,11 +1,11 @@
 // 000 butterworth.rs: the Butterworth low pass, high pass and band pass. Its checks stand in the crate checks, its pole
-// formulas in the crate poles, and its sections in the crate sections.
+// formulas in the crates poles and bandpass, and its sections in the crate sections.
 ghost use mathlib.Core.Path.{_≡_};
 ghost use mathlib.Core.List.{map};
 ghost use Prim.Native.Nat.{_<_, _≤_, _/_};
 ghost use Rattle.sections.specs.View.{sectionView};
 ghost use Rattle.cascade.specs.View.{cascadeView};
-ghost use Rattle.poles.specs.View.{pairView};
+ghost use Rattle.bandpass.specs.View.{pairView};
 ghost use Rattle.designs.specs.Design.{placed};
 ghost use Rattle.designs.specs.Butterworth.{angleOf, warped, lpPair, hpPair};
 ghost use Rattle.designs.specs.LowPass.{butterworthLp, butterworthHp};
@@ -15,10 +15,10 @@ use super::prototype::Prototype;
 use super::prototype::design_from_prototype;
 use super::returned::Design;
 use super::returned::refused;
+use bandpass::SectionPair;
 use cascade::Cascade;
 use checks::validate_band;
 use checks::validate_params;
-use poles::SectionPair;
 use scalar::PI;
 use sections::FirstOrder;
 use sections::Section;
@@ -35,7 +35,7 @@ fn angle(order: usize, m: usize) -> f64
 pub(crate) fn warp(cutoff: f64, sample_rate: f64) -> f64
     ensures { λ r. ⌜ r ≡ warped cutoff «sample_rate» ⌝ }
 {
-    scalar::tan(PI * cutoff / sample_rate)
+    elementary::tan(PI * cutoff / sample_rate)
 }
 
 // The low-pass section of pole pair m.
@@ -44,8 +44,8 @@ pub(crate) fn lp_section(order: usize, m: usize, k: f64) -> Section
     ensures { λ r. ⌜ sectionView r ≡ lpPair order m k ⌝ }
 {
     let a = angle(order, m);
-    let sigma = scalar::cos(a);
-    let omega_im = scalar::sin(a);
+    let sigma = elementary::cos(a);
+    let omega_im = elementary::sin(a);
     poles::lp_biquad_from_pole(sigma, omega_im, k)
 }
 
@@ -55,8 +55,8 @@ pub(crate) fn hp_section(order: usize, m: usize, k: f64) -> Section
     ensures { λ r. ⌜ sectionView r ≡ hpPair order m k ⌝ }
 {
     let a = angle(order, m);
-    let sigma = scalar::cos(a);
-    let omega_im = scalar::sin(a);
+    let sigma = elementary::cos(a);
+    let omega_im = elementary::sin(a);
     poles::hp_biquad_from_pole(sigma, omega_im, k)
 }
 
@@ -90,9 +90,9 @@ fn bp_pair(order: usize, m: usize, bw: f64, omega0_sq: f64) -> SectionPair
     ensures { λ r. ⌜ pairView r ≡ bpPairOf order bw «omega0_sq» m ⌝ }
 {
     let a = angle(order, m);
-    let sigma = scalar::cos(a);
-    let omega_im = scalar::sin(a);
-    poles::bp_biquads_from_lp_pole(sigma, omega_im, bw, omega0_sq)
+    let sigma = elementary::cos(a);
+    let omega_im = elementary::sin(a);
+    bandpass::bp_biquads_from_lp_pole(sigma, omega_im, bw, omega0_sq)
 }
 
 // The sections of all pole pairs, two each, and blank ones behind them.
@@ -122,7 +122,7 @@ fn bp_sections(order: usize, bw: f64, omega0_sq: f64) -> [Section; 4]
     if order % 2 == 0 {
         return sections;
     }
-    sections[order - 1] = poles::bp_biquad_from_lp_real_pole(bw, omega0_sq);
+    sections[order - 1] = bandpass::bp_biquad_from_lp_real_pole(bw, omega0_sq);
     sections
 }
 

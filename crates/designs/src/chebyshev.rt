@@ -1,4 +1,4 @@
-// 001 chebyshev.rs: the Chebyshev low passes of type I and type II. Its arcsinh is `scalar::arcsinh`, its checks stand in
+// 001 chebyshev.rs: the Chebyshev low passes of type I and type II. Its arcsinh is `hyperbolic::arcsinh`, its checks stand in
 // the crate checks, its pole formulas in the crate poles, and its sections in the crate sections.
 ghost use mathlib.Core.Path.{_≡_};
 ghost use Prim.Native.Nat.{_<_, _≤_};
@@ -35,8 +35,8 @@ fn pole_pair(order: usize, m: usize, sinh_a: f64, cosh_a: f64) -> PolePair
     ensures { λ r. ⌜ polePairView r ≡ poleOf order m «sinh_a» «cosh_a» ⌝ }
 {
     let t = theta(order, m);
-    let sin_theta = scalar::sin(t);
-    let cos_theta = scalar::cos(t);
+    let sin_theta = elementary::sin(t);
+    let cos_theta = elementary::cos(t);
     PolePair {
         sigma: -sinh_a * sin_theta,
         omega_im: cosh_a * cos_theta,
@@ -68,7 +68,7 @@ pub(crate) fn cheb2_section(order: usize, m: usize, sinh_a: f64, cosh_a: f64, k:
 fn epsilon(db: f64) -> f64
     ensures { λ r. ⌜ r ≡ epsilonOf db ⌝ }
 {
-    ieee::sqrt(scalar::pow10(db / 10.0) - 1.0)
+    ieee::sqrt(elementary::pow10(db / 10.0) - 1.0)
 }
 
 // a = arcsinh(1/ε)/N.
@@ -76,10 +76,10 @@ fn chebyshev1_prototype(order: usize, ripple_db: f64, k: f64) -> Prototype
     requires { ⌜ order ≤ 8 ⌝ }
     ensures { λ r. ⌜ r ≡ cheb1Prototype order «ripple_db» k ⌝ }
 {
-    let a = scalar::arcsinh(1.0 / epsilon(ripple_db)) / (order as f64);
+    let a = hyperbolic::arcsinh(1.0 / epsilon(ripple_db)) / (order as f64);
     Prototype::ChebyshevI {
-        sinh_a: scalar::sinh(a),
-        cosh_a: scalar::cosh(a),
+        sinh_a: hyperbolic::sinh(a),
+        cosh_a: hyperbolic::cosh(a),
         k,
     }
 }
@@ -89,10 +89,10 @@ fn chebyshev2_prototype(order: usize, stopband_db: f64, k: f64) -> Prototype
     requires { ⌜ order ≤ 8 ⌝ }
     ensures { λ r. ⌜ r ≡ cheb2Prototype order «stopband_db» k ⌝ }
 {
-    let a = scalar::arcsinh(epsilon(stopband_db)) / (order as f64);
+    let a = hyperbolic::arcsinh(epsilon(stopband_db)) / (order as f64);
     Prototype::ChebyshevII {
-        sinh_a: scalar::sinh(a),
-        cosh_a: scalar::cosh(a),
+        sinh_a: hyperbolic::sinh(a),
+        cosh_a: hyperbolic::cosh(a),
         k,
     }
 }

@@ -5,10 +5,10 @@ use lib.Dec.{eqb}
 use lib.Ieee.{Float, binary64, nan}
 use Rattle.ieee.specs.Sqrt.{sqrtOf}
 use Rattle.scalar.specs.Sign.{absOf, maxZeroOf}
-use Rattle.scalar.specs.Trigonometric.{sinOf, cosOf, tanOf}
-use Rattle.scalar.specs.Exponential.{expOf, pow10Of}
-use Rattle.scalar.specs.Logarithm.{lnOf}
-use Rattle.scalar.specs.Hyperbolic.{sinhOf, coshOf, arcsinhOf}
+use Rattle.elementary.specs.Trigonometric.{sinOf, cosOf, tanOf}
+use Rattle.elementary.specs.Exponential.{expOf, pow10Of}
+use Rattle.logarithm.specs.Logarithm.{lnOf}
+use Rattle.hyperbolic.specs.Hyperbolic.{sinhOf, coshOf, arcsinhOf}
 
 abbrev pub pick : ℕ → ℕ → Float → Float → Float
 pick n k a b = cond (eqb n k) a b

@@ -116,7 +116,14 @@ impl TapRecord {
         let taps = self.taps;
         let mut samples = self.samples;
         let window = self.window;
-        let s = taps::update(&taps, &mut samples, self.length, self.held, window as usize, x);
+        let s = taps::update(
+            &taps,
+            &mut samples,
+            self.length,
+            self.held,
+            window as usize,
+            x,
+        );
         let answer = s.answer;
         Updated {
             filter: TapRecord {

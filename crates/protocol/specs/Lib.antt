@@ -1,4 +1,2 @@
--- PROTOCOL.md: tokens, numbers as they are written, and what an answer is made of. All over bytes.
-pub mod Tokens
-pub mod Numbers
+-- PROTOCOL.md: what an answer is made of. All over bytes.
 pub mod Texts

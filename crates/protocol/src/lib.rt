@@ -1,18 +1,16 @@
-// The words and numbers of request and answer lines, as PROTOCOL.md has them: tokens of a line, counts and floats in
-// their written forms, and the bytes of an answer.
-mod number;
+// The words and numbers of request and answer lines, as PROTOCOL.md has them: the tokens of a line (crate tokens), counts
+// and floats in their written forms (crates decimals and numbers), and the bytes of an answer.
 mod print;
-mod token;
 
-pub use number::CountToken;
-pub use number::FloatToken;
-pub use number::count_token;
-pub use number::float_token;
+pub use decimals::CountToken;
+pub use decimals::FloatToken;
+pub use decimals::count_token;
+pub use numbers::float_token;
 pub use print::put_bytes;
 pub use print::put_count;
 pub use print::put_float;
-pub use token::Class;
-pub use token::Span;
-pub use token::next_token;
-pub use token::run_of;
-pub use token::same_bytes;
+pub use tokens::Class;
+pub use tokens::Span;
+pub use tokens::next_token;
+pub use tokens::run_of;
+pub use tokens::same_bytes;

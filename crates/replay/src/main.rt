@@ -3,7 +3,7 @@
 // makes the file.
 mod cascades;
 mod compare;
-mod elementary;
+mod functions;
 mod kinds;
 mod list;
 mod taps;
@@ -28,7 +28,7 @@ fn replay(fd: i32, counts: &mut [u64; COUNTS], agreed: &mut [u64; COUNTS]) -> bo
         let h = list::read_request(fd, &mut asked, &mut stored);
         let asked = list::front(&asked, h.asked);
         let stored = list::front(&stored, h.stored);
-        let mut alike = elementary::request(h.kind, asked, stored);
+        let mut alike = functions::request(h.kind, asked, stored);
         cascade = cascades::request(h.kind, cascade, asked, stored, &mut alike);
         filter = taps::request(h.kind, filter, asked, stored, &mut alike);
         kinds::count(counts, agreed, h.kind, alike);

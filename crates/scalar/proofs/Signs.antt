@@ -1,23 +1,21 @@
--- What the tests of a float against 0 and itself say: the absolute value, the sign of the nearest whole number, and NaN. Assumes nothing.
-use mathlib.Core.Path.{_≡_, refl, sym, ap, _∙_, subst}
+-- What the tests of a float against 0 and itself say: the absolute value, and NaN. Assumes nothing.
+use mathlib.Core.Path.{_≡_, refl, sym, _∙_, subst}
 use mathlib.Core.Bool.{Bool, true, false, not, Bool·beq, _&&_, _||_, true≢false}
-use Prim.Native.Nat.{ℕ, zero, suc, _+_, _*_, _^_, _≤_, _<_, zero-le}
-use native.Mathlib.Nat.{le-trans, le-of-eq, lt-of-lt-of-le, lt-irrefl, not-le-of-lt, mul-one, mul-pos, zero-mul, zero-lt-suc, le-add-right}
+use Prim.Native.Nat.{ℕ, zero, suc, _+_, _*_, _≤_, _<_, zero-le}
+use native.Mathlib.Nat.{le-of-eq, lt-of-lt-of-le, lt-irrefl, not-le-of-lt, mul-pos, zero-mul, zero-lt-suc}
 use native.Mathlib.Omega.{arith}
-use lib.IntN.{pos, negℤ}
-use lib.Dec.{T, eqb, eqb→eq, lt→ltb}
+use lib.IntN.{pos}
+use lib.Dec.{T, eqb, eqb→eq}
 use lib.Pow.{pow-pos}
 use lib.Ieee as Ieee
 use lib.Ieee.{Float, nan, inf, fin, binary64, up, down, fits, lt, eq, ofBits}
-use lib.Ieee.Fits.{and-l, down-pos, up-pos}
-use lib.Ieee.Nearest.{closest, closest-same}
-use lib.Ieee.Positive.{num, den, positive}
+use lib.Ieee.Fits.{and-l, up-pos}
 use borrow.Author.Tests.{ltb-true, ltb-false, eq-eqb}
 use Rattle.scalar.specs.Sign.{absOf}
-use Rattle.scalar.specs.Whole.{Within, nearestOf}
 use Rattle.scalar.proofs.Values.{unique}
 
-not-below-zero : (a d : ℕ) → a < 0 * d → ⊥
+-- nothing is below 0
+pub not-below-zero : (a d : ℕ) → a < 0 * d → ⊥
 not-below-zero a d h = not-le-of-lt (lt-of-lt-of-le h (le-of-eq (zero-mul d))) zero-le
 
 -- ---- the absolute value
@@ -54,25 +52,6 @@ abs-pos (fin true m e) f t u = let l = ltb-false 0 (m * up e * 1 + 0 * down e) t
         let q : b ≡ 0 = omega arith in
         true≢false (rw (p, q) at u)
 
--- ---- the sign of the nearest whole number
-pub near-neg : (x : Float) → Within (2 ^ 52) x → lt x (ofBits binary64 0) ≡ true → nearestOf x ≡ negℤ (pos (closest (num x) (den x)))
-unfolding nearestOf lt ofBits Within
-near-neg nan h t = absurd h
-near-neg (inf s) h t = absurd h
-near-neg (fin true m e) h t = refl
-near-neg (fin false m e) h t = absurd (not-below-zero (m * up e * 1) (down e) (ltb-true (m * up e * 1) (0 * down e) t))
-
-pub near-pos : (x : Float) → Within (2 ^ 52) x → lt x (ofBits binary64 0) ≡ false → nearestOf x ≡ pos (closest (num x) (den x))
-unfolding nearestOf lt ofBits Within
-near-pos nan h t = absurd h
-near-pos (inf s) h t = absurd h
-near-pos (fin false m e) h t = refl
-near-pos (fin true m e) h t =
-    let l = ltb-false 0 (m * up e * 1 + 0 * down e) t in
-    let z : m * up e ≡ 0 = omega arith in
-    let c : closest (m * up e) (down e) ≡ 0 = closest-same (m * up e) (down e) 0 1 (down-pos e) (pow-pos 0) (mul-one (m * up e) ∙ z ∙ sym (zero-mul (down e))) in
-    ap (λ (n : ℕ). negℤ (pos n)) c ∙ sym (ap pos c)
-
 -- ---- a NaN is what differs from itself
 pub nan-test : (x : Float) → Ieee.isNan x ≡ Ieee.ne x x
 unfolding Ieee.isNan Ieee.ne
@@ -84,27 +63,3 @@ nan-test (fin s m e) = rw (eq-eqb (m * up e * down e) (m * up e * down e) refl) 
     same : (s : Bool) → false ≡ not (true && (Bool·beq s s || eqb (m * up e * down e) 0))
     same true = refl
     same false = refl
-
--- ---- what the tests of `ln` leave
-pub inf-is : Ieee.div binary64 (ofBits binary64 0x3FF0000000000000) (ofBits binary64 0) ≡ inf false
-unfolding Ieee.div ofBits
-inf-is = refl
-
-pub left-positive : (x : Float) → Ieee.ne x x ≡ false → lt x (ofBits binary64 0) ≡ false → eq x (ofBits binary64 0) ≡ false → eq x (inf false) ≡ false → T (positive x)
-unfolding Ieee.ne lt eq ofBits
-left-positive nan n l z i = absurd (true≢false n)
-left-positive (inf true) n l z i = absurd (true≢false l)
-left-positive (inf false) n l z i = absurd (true≢false i)
-left-positive (fin s zero e) n l z i = absurd (true≢false (sym (level-zero s e) ∙ z))
-  where
-    level-zero : (s : Bool) (e : _) → eq (fin s zero e) (ofBits binary64 0) ≡ true
-    level-zero true e = rw (zero-mul (up e), zero-mul (down e))
-    level-zero false e = rw (zero-mul (up e), zero-mul (down e))
-left-positive (fin false (suc m) e) n l z i = lt→ltb 0 (suc m) (zero-lt-suc m)
-left-positive (fin true (suc m) e) n l z i = absurd (not-le-of-lt (mul-pos (mul-pos (zero-lt-suc m) (up-pos e)) (pow-pos 0)) (le-trans (le-add-right (suc m * up e * 1) (0 * down e)) (ltb-false 0 (suc m * up e * 1 + 0 * down e) l)))
-
-pub positive-number : (x : Float) → T (positive x) → T (not (Ieee.isNan x))
-unfolding Ieee.isNan
-positive-number nan p = absurd p
-positive-number (inf s) p = tt
-positive-number (fin s m e) p = tt

@@ -1,10 +1,4 @@
--- What the contracts of `scalar` say, from 01 "Elementary functions".
+-- What the contracts of `scalar` say, from 01 "Elementary functions", and the operators and constants that all definitions over floats use.
 pub mod Operators
 pub mod Constants
 pub mod Sign
-pub mod Whole
-pub mod Series
-pub mod Trigonometric
-pub mod Exponential
-pub mod Logarithm
-pub mod Hyperbolic

@@ -1,29 +1,17 @@
-// The elementary functions of the filter designs, each by the written rule of 01 "Elementary functions", and the
-// constants of 004 (scalar.rs) that the filters use. The square root is the crate ieee's.
+// The constants of 004 (scalar.rs) that the filters use, with ln 2 and its parts, and what is told of a number by
+// comparing it: its absolute value, its maximum with 0, whether it is finite.
 mod constants;
-mod exponential;
-mod hyperbolic;
-mod logarithm;
-mod series;
 mod sign;
-mod trigonometric;
-mod whole;
 
 pub use constants::EPSILON;
 pub use constants::HALF;
+pub use constants::LN_2;
+pub use constants::LN_2_HIGH;
+pub use constants::LN_2_LOW;
 pub use constants::ONE;
 pub use constants::PI;
 pub use constants::TWO;
 pub use constants::ZERO;
-pub use exponential::exp;
-pub use exponential::pow10;
-pub use hyperbolic::arcsinh;
-pub use hyperbolic::cosh;
-pub use hyperbolic::sinh;
-pub use logarithm::ln;
 pub use sign::abs;
 pub use sign::is_finite;
 pub use sign::max_zero;
-pub use trigonometric::cos;
-pub use trigonometric::sin;
-pub use trigonometric::tan;

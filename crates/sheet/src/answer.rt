@@ -1,10 +1,10 @@
 // The answer to a line.
 use super::cascades::CascadeAnswer;
 use super::cascades::answer_cascade;
-use super::elementary::answer_function;
 use super::fault::Fault;
 use super::filters::FirAnswer;
 use super::filters::answer_filter;
+use super::functions::answer_function;
 use super::line::bytes_of;
 use super::line::rest_of;
 use super::put::end_line;

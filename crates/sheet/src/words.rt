@@ -1,8 +1,8 @@
 // The words that name requests and windows.
 use super::cascades::CascadeKind;
 use super::cascades::CascadeRequest;
-use super::elementary::Function;
 use super::filters::FirRequest;
+use super::functions::Function;
 use protocol::same_bytes;
 use windows::WindowType;
 

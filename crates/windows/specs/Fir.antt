@@ -7,7 +7,7 @@ use lib.Ieee.{Float, eq, lt}
 use Rattle.scalar.specs.Operators.{_⊕_, _⊖_, _⊗_, _⊘_, bits, nat}
 use Rattle.scalar.specs.Constants.{plusZero, one, two, half, pi, epsilon}
 use Rattle.scalar.specs.Sign.{absOf}
-use Rattle.scalar.specs.Trigonometric.{sinOf, cosOf}
+use Rattle.elementary.specs.Trigonometric.{sinOf, cosOf}
 use Rattle.runs.specs.Refusals.{Accepted}
 use Rattle.taps.specs.Fir.{Rectangular, Hamming, Hanning, Blackman, Made, blankTaps, holding}
 use Rattle.taps.specs.Lent.{capacity}

@@ -40,11 +40,11 @@ pub fn window_weight(window: WindowType, i: f64, n: f64, two_pi: f64) -> f64
 {
     match window {
         WindowType::Rectangular => 1.0,
-        WindowType::Hamming => 0.54 - 0.46 * scalar::cos(two_pi * i / (n - 1.0)),
-        WindowType::Hanning => 0.5 * (1.0 - scalar::cos(two_pi * i / (n - 1.0))),
+        WindowType::Hamming => 0.54 - 0.46 * elementary::cos(two_pi * i / (n - 1.0)),
+        WindowType::Hanning => 0.5 * (1.0 - elementary::cos(two_pi * i / (n - 1.0))),
         WindowType::Blackman => {
             let arg = two_pi * i / (n - 1.0);
-            0.42 - 0.5 * scalar::cos(arg) + 0.08 * scalar::cos(2.0 * arg)
+            0.42 - 0.5 * elementary::cos(arg) + 0.08 * elementary::cos(2.0 * arg)
         }
     }
 }
@@ -56,7 +56,7 @@ fn sinc(cutoff: f64, n: f64) -> f64
     if n == 0.0 {
         return 2.0 * cutoff;
     }
-    scalar::sin(2.0 * PI * cutoff * n) / (PI * n)
+    elementary::sin(2.0 * PI * cutoff * n) / (PI * n)
 }
 
 // Tap i, before all are divided by their sum.

@@ -72,7 +72,7 @@ loop-again c = let l = c .before .before .before .before .before .before .before
     let b = c .before .is-clouded .ensures ∙ p .1 in (
       rw (p .2) (fits-next capacity st x (l .loop .inv .0) (r .good)),
       run-turn F (check-next capacity) _ _ _ (omega (arith, length-take-le (s .args .k) (s .args .input .now) (s .pre .2))) (rw (← g) at y) (rw (← g) at b) (rw (← g) at (p .2))
-      (⊎-elim (λ w. rw (w .0 .taken) (w .1)) (λ w. rw (w .0 .left) (w .1)) (c .if1 .came)) r,
+          (⊎-elim (λ w. rw (w .0 .taken) (w .1)) (λ w. rw (w .0 .left) (w .1)) (c .if1 .came)) r,
     )
 
 same-length : tie.Need-same-length Inv-loop μ-loop

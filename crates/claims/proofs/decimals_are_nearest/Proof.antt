@@ -1,5 +1,5 @@
 -- `claims::decimals_are_nearest` meets its contract. Assumes nothing.
-use Rattle.protocol.proofs.Decimals.{decimal-nearest}
+use Rattle.decimals.proofs.Decimals.{decimal-nearest}
 use Rattle.claims.proofs.decimals_are_nearest.Statement.{statement}
 use Rattle.claims.proofs.decimals_are_nearest.Tie as tie
 

@@ -1,5 +1,5 @@
 -- `claims::ln_splits` meets its contract. Assumes nothing.
-use Rattle.scalar.proofs.Digits.{splits}
+use Rattle.logarithm.proofs.Digits.{splits}
 use Rattle.claims.proofs.ln_splits.Statement.{statement}
 use Rattle.claims.proofs.ln_splits.Tie as tie
 

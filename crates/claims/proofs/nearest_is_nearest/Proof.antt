@@ -1,5 +1,5 @@
 -- `claims::nearest_is_nearest` meets its contract. Assumes nothing.
-use Rattle.scalar.proofs.Rest.{nearest-whole}
+use Rattle.elementary.proofs.Rest.{nearest-whole}
 use Rattle.claims.proofs.nearest_is_nearest.Statement.{statement}
 use Rattle.claims.proofs.nearest_is_nearest.Tie as tie
 

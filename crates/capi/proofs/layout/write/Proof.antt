@@ -32,9 +32,9 @@ same-length-2 c = search needs
 returns : tie.Need-returns
 unfolding cascadeNumbers cascadeCounts
 returns c = let s = c .before .before .before .before .before .before .before .before .before .before .before .before .before .before .before .before .before .before in (
-      first-written (s .args .numbers .now) (sectionsNumbers (map sectionView (s .args .c .sections))) (firstNumbers (firstView (s .args .c .first))) (s .pre .0) refl (c .before .before .before .before .before .before .before .before .before .before .before .before .before .put-sections .ensures) (c .before .before .before .before .before .before .before .before .before .before .before .before .numbers .given ∙ s .pre .0) (c .before .before .before .before .before .before .before .before .put-first .ensures),
-      rw (← c .before .before .before .before .flag .ensures, ← c .before .before .before .flag2 .ensures) (c .before .before .put-counts .ensures),
-    )
+  first-written (s .args .numbers .now) (sectionsNumbers (map sectionView (s .args .c .sections))) (firstNumbers (firstView (s .args .c .first))) (s .pre .0) refl (c .before .before .before .before .before .before .before .before .before .before .before .before .before .put-sections .ensures) (c .before .before .before .before .before .before .before .before .before .before .before .before .numbers .given ∙ s .pre .0) (c .before .before .before .before .before .before .before .before .put-first .ensures),
+  rw (← c .before .before .before .before .flag .ensures, ← c .before .before .before .flag2 .ensures) (c .before .before .put-counts .ensures),
+)
 
 pub write-spec : {M : Type 1} → statement M
 write-spec =

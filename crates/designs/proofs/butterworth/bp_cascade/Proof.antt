@@ -12,7 +12,7 @@ blank-requires c κs = search needs
 
 returns : tie.Need-returns
 unfolding bpCascade
-returns c = cc
+returns c = rw (c .before .bp-sections .ensures, c .blank .ensures)
 
 pub bp-cascade-spec : {M : Type 1} → statement M
 bp-cascade-spec = tie.close (tie.spec bp-sections-requires blank-requires returns)

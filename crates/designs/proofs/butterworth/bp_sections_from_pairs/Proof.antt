@@ -7,7 +7,7 @@ use native.Mathlib.Omega.{arith}
 use borrow.Author.Needs.{needs}
 use Rattle.sections.specs.View.{sectionView}
 use Rattle.designs.specs.Design.{placed}
-use Rattle.poles.specs.BandPass.{BiquadPair}
+use Rattle.bandpass.specs.BandPass.{BiquadPair}
 use Rattle.designs.specs.BandPass.{bpUpTo}
 use Rattle.designs.proofs.Places.{band-none, band-turn}
 use Rattle.designs.proofs.butterworth.bp_sections_from_pairs.Statement.{statement}

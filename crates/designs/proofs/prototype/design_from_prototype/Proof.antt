@@ -12,7 +12,7 @@ first-from-pole-requires c κs = search needs
 
 returns : tie.Need-returns
 unfolding prototypeCascade
-returns c = cc
+returns c = rw (c .before .sections-from-pairs .ensures, c .first-from-pole .ensures)
 
 pub design-from-prototype-spec : {M : Type 1} → statement M
 design-from-prototype-spec =

@@ -1,0 +1,16 @@
+-- `bandpass::bp_biquad_from_bp_pole_pair` meets its contract. Assumes nothing.
+use Rattle.bandpass.specs.BandPass.{bpBiquad}
+use borrow.Author.Needs.{needs}
+use Rattle.bandpass.proofs.bp_biquad_from_bp_pole_pair.Statement.{statement}
+use Rattle.bandpass.proofs.bp_biquad_from_bp_pole_pair.Tie as tie
+
+bp-biquad-from-sum-and-product-requires : tie.Need-bp-biquad-from-sum-and-product-requires
+bp-biquad-from-sum-and-product-requires c κs = search needs
+
+returns : tie.Need-returns
+unfolding bpBiquad
+returns c = c .bp-biquad-from-sum-and-product .ensures
+
+pub bp-biquad-from-bp-pole-pair-spec : {M : Type 1} → statement M
+bp-biquad-from-bp-pole-pair-spec =
+    tie.close (tie.spec bp-biquad-from-sum-and-product-requires returns)

@@ -1,0 +1,61 @@
+use Rattle.decimals.proofs.Digits.{result-small}
+use mathlib.Core.Logic.{⊎-elim}
+-- `decimals::decimal_after` meets its contract. Assumes nothing.
+use Prim.Native.Nat.{_-_}
+use mathlib.Core.Path.{refl}
+use lib.ListN.{length}
+use native.Mathlib.Omega.{arith}
+use Rattle.decimals.proofs.Digits.{Capping, cap-turn, cap-done}
+use borrow.Author.Needs.{needs}
+use Rattle.decimals.proofs.decimal_after.Statement.{statement}
+use Rattle.decimals.proofs.decimal_after.Tie as tie
+
+abbrev Inv-loop : tie.InvT-loop
+Inv-loop n digits value₀ i₀ value i = Capping n digits value i
+
+abbrev μ-loop : tie.MeasureT-loop
+μ-loop n digits value₀ i₀ value i = length digits - i
+
+loop-holds : tie.Need-loop-holds Inv-loop μ-loop
+loop-holds c = (search needs, refl)
+
+mul-value : tie.Need-mul-value Inv-loop μ-loop
+mul-value c = search needs
+
+shared-slice-read-digit : tie.Need-shared-slice-read-digit Inv-loop μ-loop
+shared-slice-read-digit c = search needs
+
+digit-requires : tie.Need-digit-requires Inv-loop μ-loop
+digit-requires c κs = search needs
+
+add-value : tie.Need-add-value Inv-loop μ-loop
+add-value c = omega (arith, result-small _ (c .digit .ensures), c .before .before .before .loop .inv .0)
+
+add-i : tie.Need-add-i Inv-loop μ-loop
+add-i c = search needs
+
+loop-less : tie.Need-loop-less Inv-loop μ-loop
+loop-less c = search needs
+
+loop-again : tie.Need-loop-again Inv-loop μ-loop
+loop-again c = let e = c .before .before .before in
+    cap-turn _ _ _ _ (e .loop-test .taken) (⊎-elim (λ w. omega (arith, c .before .digit .ensures)) (λ w. omega (arith, c .before .digit .ensures)) (c .if1 .came)) (e .before .loop .inv)
+
+returns : tie.Need-returns Inv-loop μ-loop
+returns c = cap-done _ _ _ _ (c .loop-test .left) (c .before .loop .inv)
+
+pub decimal-after-spec : {M : Type 1} → statement M
+decimal-after-spec =
+    tie.close
+    (tie.spec
+    Inv-loop
+    μ-loop
+    loop-holds
+    mul-value
+    shared-slice-read-digit
+    digit-requires
+    add-value
+    add-i
+    loop-less
+    loop-again
+    returns)

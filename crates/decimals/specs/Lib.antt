@@ -1,0 +1,2 @@
+-- PROTOCOL.md: counts and decimals as they are written. All over bytes.
+pub mod Decimals

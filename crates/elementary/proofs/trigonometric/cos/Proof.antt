@@ -1,0 +1,29 @@
+-- `elementary::trigonometric::cos` meets its contract. Assumes nothing.
+use mathlib.Core.Bool.{true, false}
+use lib.Ieee as Ieee
+use Rattle.elementary.specs.Trigonometric.{cosOf}
+use Rattle.elementary.proofs.Bounds.{turnable-is, turnable-within}
+use borrow.Author.Needs.{needs}
+use Rattle.elementary.proofs.trigonometric.cos.Statement.{statement}
+use Rattle.elementary.proofs.trigonometric.cos.Tie as tie
+
+abs-requires : tie.Need-abs-requires
+abs-requires c κs = search needs
+
+reduced-requires : tie.Need-reduced-requires
+reduced-requires c κs = let x = c .before .before .args .x in turnable-within x (turnable-is x (c .before .abs .result) true (c .before .abs .ensures) (c .if1 .taken))
+
+cos-in-requires : tie.Need-cos-in-requires
+cos-in-requires c κs = search needs
+
+returns : tie.Need-returns
+unfolding cosOf
+returns c = let d = c .before .before .before in
+    rw (c .cos-in .ensures, c .before .reduced .ensures, turnable-is (d .before .args .x) (d .abs .result) true (d .abs .ensures) (c .before .before .if1 .taken))
+
+returns-2 : tie.Need-returns-2
+unfolding cosOf Ieee.div Ieee.ofBits
+returns-2 c = rw (turnable-is (c .before .before .args .x) (c .before .abs .result) false (c .before .abs .ensures) (c .if1 .left))
+
+pub cos-spec : {M : Type 1} → statement M
+cos-spec = tie.close (tie.spec abs-requires reduced-requires cos-in-requires returns returns-2)

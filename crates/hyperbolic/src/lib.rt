@@ -1,0 +1,24 @@
+// sinh and cosh by exp, as 01 "Elementary functions" has them, and arcsinh as in 001 (chebyshev.rs).
+ghost use mathlib.Core.Path.{_≡_};
+ghost use Rattle.hyperbolic.specs.Hyperbolic.{sinhOf, coshOf, arcsinhOf};
+use elementary::exp;
+use logarithm::ln;
+
+pub fn sinh(a: f64) -> f64
+    ensures { λ r. ⌜ r ≡ sinhOf a ⌝ }
+{
+    (exp(a) - exp(-a)) * 0.5
+}
+
+pub fn cosh(a: f64) -> f64
+    ensures { λ r. ⌜ r ≡ coshOf a ⌝ }
+{
+    (exp(a) + exp(-a)) * 0.5
+}
+
+// ln(x + √(x * x + 1))
+pub fn arcsinh(x: f64) -> f64
+    ensures { λ r. ⌜ r ≡ arcsinhOf x ⌝ }
+{
+    ln(x + ieee::sqrt(x * x + 1.0))
+}

@@ -1,0 +1,21 @@
+-- `logarithm::significand` meets its contract. Assumes nothing.
+use Rattle.ieee.proofs.Patterns.{made, made-hi, below-no-nan}
+use lib.Dec.{lit<}
+use borrow.Author.Needs.{needs}
+use Rattle.logarithm.proofs.significand.Statement.{statement}
+use Rattle.logarithm.proofs.significand.Tie as tie
+
+mul-result : tie.Need-mul-result
+mul-result c = search needs
+
+add-result : tie.Need-add-result
+add-result c = search needs
+
+float-from-bits-result : tie.Need-float-from-bits-result
+float-from-bits-result c = below-no-nan _ (made-hi 1022 (c .args .q) (c .pre .1) (lit< tt))
+
+returns : tie.Need-returns
+returns c = made 1022 (c .args .q) (c .pre .0) (c .pre .1) (lit< tt)
+
+pub significand-spec : {M : Type 1} → statement M
+significand-spec = tie.close (tie.spec mul-result add-result float-from-bits-result returns)

@@ -1,0 +1,54 @@
+-- `tokens::is_in` meets its contract. Assumes nothing.
+use Rattle.tokens.specs.Tokens.{inClass}
+use borrow.Author.Needs.{needs}
+use Rattle.tokens.proofs.is_in.Statement.{statement}
+use Rattle.tokens.proofs.is_in.Tie as tie
+
+enum-told : tie.Need-enum-told
+enum-told c = search needs
+
+enum-told-2 : tie.Need-enum-told-2
+enum-told-2 c = search needs
+
+enum-told-3 : tie.Need-enum-told-3
+enum-told-3 c = search needs
+
+between-requires : tie.Need-between-requires
+between-requires c κs = search needs
+
+enum-told-4 : tie.Need-enum-told-4
+enum-told-4 c = search needs
+
+is-hex-digit-requires : tie.Need-is-hex-digit-requires
+is-hex-digit-requires c κs = search needs
+
+returns : tie.Need-returns
+unfolding inClass
+returns c = rw (c .enum-told .given .1)
+
+returns-2 : tie.Need-returns-2
+unfolding inClass
+returns-2 c = rw (c .enum-told2 .given .1)
+
+returns-3 : tie.Need-returns-3
+unfolding inClass
+returns-3 c = rw (c .before .enum-told3 .given .1) (c .between .ensures)
+
+returns-4 : tie.Need-returns-4
+unfolding inClass
+returns-4 c = rw (c .before .enum-told4 .given .1) (c .is-hex-digit .ensures)
+
+pub is-in-spec : {M : Type 1} → statement M
+is-in-spec =
+    tie.close
+    (tie.spec
+    enum-told
+    enum-told-2
+    enum-told-3
+    between-requires
+    enum-told-4
+    is-hex-digit-requires
+    returns
+    returns-2
+    returns-3
+    returns-4)

@@ -1,0 +1,2 @@
+-- PROTOCOL.md: tokens of a line. All over bytes.
+pub mod Tokens
