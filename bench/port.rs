@@ -12,8 +12,8 @@ extern "C" {
 }
 #[cfg(steps)]
 extern "C" {
-    fn steps_cascade(numbers: *mut f64, numbers_len: usize, counts: *mut usize, counts_len: usize, input: *const f64, input_len: usize, output: *mut f64, output_len: usize, clouded: *mut usize, clouded_len: usize) -> u8;
-    fn steps_fir(taps: *const f64, taps_len: usize, samples: *mut f64, samples_len: usize, counts: *mut usize, counts_len: usize, input: *const f64, input_len: usize, output: *mut f64, output_len: usize, clouded: *mut usize, clouded_len: usize) -> u8;
+    fn steps_cascade(order: usize, cutoff: f64, rate: f64, input: *const f64, input_len: usize, output: *mut f64, output_len: usize) -> u8;
+    fn steps_fir(coeffs: *const f64, coeffs_len: usize, input: *const f64, input_len: usize, output: *mut f64, output_len: usize) -> u8;
 }
 
 /// From the input to the output, and on from there the next time.
@@ -55,13 +55,10 @@ pub fn cascade_blocks(order: usize, cutoff: f64, rate: f64, length: usize) -> Ru
     })
 }
 
+/// Each run starts from a new design.
 #[cfg(steps)]
 pub fn cascade_by_value(order: usize, cutoff: f64, rate: f64) -> Run {
-    let mut c = lowpass(order, cutoff, rate);
-    Box::new(move |x, y| {
-        let mut clouded = 0;
-        accepted(unsafe { steps_cascade(c.numbers.as_mut_ptr(), 32, c.counts.as_mut_ptr(), 3, x.as_ptr(), x.len(), y.as_mut_ptr(), y.len(), &mut clouded, 1) });
-    })
+    Box::new(move |x, y| accepted(unsafe { steps_cascade(order, cutoff, rate, x.as_ptr(), x.len(), y.as_mut_ptr(), y.len()) }))
 }
 
 #[derive(Clone)]
@@ -97,13 +94,11 @@ pub fn fir_blocks(coeffs: &[f64], length: usize) -> Run {
     })
 }
 
+/// Each run starts from a new record.
 #[cfg(steps)]
 pub fn fir_by_value(coeffs: &[f64]) -> Run {
-    let mut t = from_coeffs(coeffs);
-    Box::new(move |x, y| {
-        let mut clouded = 0;
-        accepted(unsafe { steps_fir(t.taps.as_ptr(), 64, t.samples.as_mut_ptr(), 64, t.counts.as_mut_ptr(), 3, x.as_ptr(), x.len(), y.as_mut_ptr(), y.len(), &mut clouded, 1) });
-    })
+    let coeffs = coeffs.to_vec();
+    Box::new(move |x, y| accepted(unsafe { steps_fir(coeffs.as_ptr(), coeffs.len(), x.as_ptr(), x.len(), y.as_mut_ptr(), y.len()) }))
 }
 
 /// So many designs of order 8; the bits of the four sections of the last.

@@ -103,7 +103,7 @@ fn empty_window() -> [f64; 128]
 
 // The n held samples, oldest first, and behind them m samples of the input from place `from` on.
 fn window_of(samples: &[f64], n: usize, input: &[f64], from: usize, m: usize) -> [f64; 128]
-    requires { ⌜ (1 ≤ n) × (n ≤ 64) × (n ≤ length (now samples)) × (m ≤ n) × (from + m ≤ length (now input)) ⌝ }
+    requires { ⌜ (1 ≤ n) × (n ≤ capacity) × (n ≤ length (now samples)) × (m ≤ n) × (from + m ≤ length (now input)) ⌝ }
     ensures { λ r. ⌜ (length r ≡ 128) × (take (n + m) r ≡ backFrom n (now (samples .entry)) (n - 1) ++ take m (drop from (now (input .entry)))) ⌝ }
 {
     let mut window = empty_window();

@@ -15,7 +15,7 @@ use Rattle.taps.specs.Fir.{TapsRecord, Made, fir}
 use Rattle.taps.specs.Lent.{capacity, lentTaps, fits}
 use Rattle.designs.specs.Design.{DesignRecord}
 use Rattle.capi.specs.Layout.{Kind, flag, cascadePlaces, cascadeFits, cascadeNumbers, cascadeCounts, tapsCounts, tapsAt, tapsFit, firKind}
-use Rattle.capi.specs.Calls.{Call, Kept, TapsKept, recordOf, fitting, left, stepCall, blockCall, resetCall, kept, designCall, tapsLeft, tapsPlaces, madeCall}
+use Rattle.capi.specs.Calls.{Call, Stored, TapsStored, recordOf, fitting, unchanged, stepCall, blockCall, resetCall, notStored, designCall, tapsUnchanged, tapsPlaces, madeCall}
 use Rattle.capi.proofs.Places.{both, set-middle}
 
 -- ---- the tests of lengths
@@ -66,94 +66,94 @@ module _ (K : Kind) (ns : List Float) (cs : List ℕ) where
 
   -- ---- a step
   module _ (x : Float) (answer : List Float) (tally : List ℕ) where
-    pub step-not-single : (eqb (length answer) 1 && eqb (length tally) 1) ≡ false → left K ns cs answer tally BadCall ≡ stepCall K ns cs x answer tally
+    pub step-not-single : (eqb (length answer) 1 && eqb (length tally) 1) ≡ false → unchanged K ns cs answer tally BadCall ≡ stepCall K ns cs x answer tally
     unfolding stepCall
     step-not-single h = rw h
 
-    pub step-unfit : (eqb (length answer) 1 && eqb (length tally) 1) ≡ true → K .fit ns cs ≡ false → left K ns cs answer tally BadCall ≡ stepCall K ns cs x answer tally
+    pub step-unfit : (eqb (length answer) 1 && eqb (length tally) 1) ≡ true → K .fit ns cs ≡ false → unchanged K ns cs answer tally BadCall ≡ stepCall K ns cs x answer tally
     unfolding stepCall
     step-unfit h k = rw (h, unfit-step (K .filter) (fitting K ns cs) (recordOf K ns cs) x k)
 
-    pub step-left : {a : Answer} {s : K .filter .State} {n : ℕ} → (eqb (length answer) 1 && eqb (length tally) 1) ≡ true
+    pub step-refused : {a : Answer} {s : K .filter .State} {n : ℕ} → (eqb (length answer) 1 && eqb (length tally) 1) ≡ true
         → _≡_ {A = Step (K .filter .State)} (record { answer = a; state = s }) (lentStep (K .filter) (fitting K ns cs) (recordOf K ns cs) x) → n ≡ refusalOf a → (n ≡ 0 → ⊥)
-        → left K ns cs answer tally n ≡ stepCall K ns cs x answer tally
+        → unchanged K ns cs answer tally n ≡ stepCall K ns cs x answer tally
     unfolding stepCall
-    step-left {a} {s} {n} h e g k = rw (h, ← e, ← g, ne-eqb n 0 k)
+    step-refused {a} {s} {n} h e g k = rw (h, ← e, ← g, ne-eqb n 0 k)
 
-    pub step-went : {a : Answer} {s : K .filter .State} {n : ℕ} {ns′ ys : List Float} {cs′ tally′ : List ℕ} → (eqb (length answer) 1 && eqb (length tally) 1) ≡ true
+    pub step-accepted : {a : Answer} {s : K .filter .State} {n : ℕ} {ns′ ys : List Float} {cs′ tally′ : List ℕ} → (eqb (length answer) 1 && eqb (length tally) 1) ≡ true
         → _≡_ {A = Step (K .filter .State)} (record { answer = a; state = s }) (lentStep (K .filter) (fitting K ns cs) (recordOf K ns cs) x) → n ≡ refusalOf a → n ≡ 0
         → ns′ ≡ K .numbers s → cs′ ≡ K .counts s → ys ≡ numberOf a ∷ [] → tally′ ≡ flag (isClouded a) ∷ []
         → _≡_ {A = Call} (record { refusal = Accepted; numbers = ns′; counts = cs′; answers = ys; clouded = tally′ }) (stepCall K ns cs x answer tally)
     unfolding stepCall
-    step-went {a} {s} {n} h e g k en ec ey et = rw (h, ← e, eq-eqb (refusalOf a) 0 (sym g ∙ k), en, ec, ey, et)
+    step-accepted {a} {s} {n} h e g k en ec ey et = rw (h, ← e, eq-eqb (refusalOf a) 0 (sym g ∙ k), en, ec, ey, et)
 
   -- ---- a block
   module _ (input output : List Float) (tally : List ℕ) where
-    pub block-not-single : (length tally ≡ 1 → ⊥) → left K ns cs output tally BadCall ≡ blockCall K ns cs input output tally
+    pub block-not-single : (length tally ≡ 1 → ⊥) → unchanged K ns cs output tally BadCall ≡ blockCall K ns cs input output tally
     unfolding blockCall
     block-not-single h = rw (ne-eqb (length tally) 1 h)
 
-    pub block-unfit : length tally ≡ 1 → K .fit ns cs ≡ false → left K ns cs output tally BadCall ≡ blockCall K ns cs input output tally
+    pub block-unfit : length tally ≡ 1 → K .fit ns cs ≡ false → unchanged K ns cs output tally BadCall ≡ blockCall K ns cs input output tally
     unfolding blockCall
     block-unfit h k = rw (eq-eqb (length tally) 1 h, unfit-block (K .filter) (fitting K ns cs) (recordOf K ns cs) input output k)
 
-    pub block-left : {n c : ℕ} {s : K .filter .State} {o : List Float} → length tally ≡ 1
+    pub block-refused : {n c : ℕ} {s : K .filter .State} {o : List Float} → length tally ≡ 1
         → _≡_ {A = Block (K .filter .State)} (record { refusal = n; clouded = c; state = s; output = o }) (lentBlock (K .filter) (fitting K ns cs) (recordOf K ns cs) input output) → (n ≡ 0 → ⊥)
-        → left K ns cs o tally n ≡ blockCall K ns cs input output tally
+        → unchanged K ns cs o tally n ≡ blockCall K ns cs input output tally
     unfolding blockCall
-    block-left {n} h e k = rw (eq-eqb (length tally) 1 h, ← e, ne-eqb n 0 k, block-keeps (K .filter) (fitting K ns cs) (recordOf K ns cs) input output e k .1)
+    block-refused {n} h e k = rw (eq-eqb (length tally) 1 h, ← e, ne-eqb n 0 k, block-keeps (K .filter) (fitting K ns cs) (recordOf K ns cs) input output e k .1)
 
-    pub block-went : {n c : ℕ} {s : K .filter .State} {o ns′ : List Float} {cs′ tally′ : List ℕ} → length tally ≡ 1
+    pub block-accepted : {n c : ℕ} {s : K .filter .State} {o ns′ : List Float} {cs′ tally′ : List ℕ} → length tally ≡ 1
         → _≡_ {A = Block (K .filter .State)} (record { refusal = n; clouded = c; state = s; output = o }) (lentBlock (K .filter) (fitting K ns cs) (recordOf K ns cs) input output) → n ≡ 0
         → ns′ ≡ K .numbers s → cs′ ≡ K .counts s → tally′ ≡ c ∷ []
         → _≡_ {A = Call} (record { refusal = Accepted; numbers = ns′; counts = cs′; answers = o; clouded = tally′ }) (blockCall K ns cs input output tally)
     unfolding blockCall
-    block-went {n} h e k en ec et = rw (eq-eqb (length tally) 1 h, ← e, eq-eqb n 0 k, en, ec, et)
+    block-accepted {n} h e k en ec et = rw (eq-eqb (length tally) 1 h, ← e, eq-eqb n 0 k, en, ec, et)
 
   -- ---- a reset
-  pub reset-unfit : K .fit ns cs ≡ false → kept ns cs BadCall ≡ resetCall K ns cs
+  pub reset-unfit : K .fit ns cs ≡ false → notStored ns cs BadCall ≡ resetCall K ns cs
   unfolding resetCall
   reset-unfit k = rw (unfit-reset (K .filter) (fitting K ns cs) (recordOf K ns cs) k)
 
-  pub reset-left : {n : ℕ} {s : K .filter .State} → _≡_ {A = Reset (K .filter .State)} (record { refusal = n; state = s }) (lentReset (K .filter) (fitting K ns cs) (recordOf K ns cs)) → (n ≡ 0 → ⊥)
-      → kept ns cs n ≡ resetCall K ns cs
+  pub reset-refused : {n : ℕ} {s : K .filter .State} → _≡_ {A = Reset (K .filter .State)} (record { refusal = n; state = s }) (lentReset (K .filter) (fitting K ns cs) (recordOf K ns cs)) → (n ≡ 0 → ⊥)
+      → notStored ns cs n ≡ resetCall K ns cs
   unfolding resetCall
-  reset-left {n} e k = rw (← e, ne-eqb n 0 k)
+  reset-refused {n} e k = rw (← e, ne-eqb n 0 k)
 
-  pub reset-went : {n : ℕ} {s : K .filter .State} {ns′ : List Float} {cs′ : List ℕ}
+  pub reset-accepted : {n : ℕ} {s : K .filter .State} {ns′ : List Float} {cs′ : List ℕ}
       → _≡_ {A = Reset (K .filter .State)} (record { refusal = n; state = s }) (lentReset (K .filter) (fitting K ns cs) (recordOf K ns cs)) → n ≡ 0 → ns′ ≡ K .numbers s → cs′ ≡ K .counts s
-      → _≡_ {A = Kept} (record { refusal = Accepted; numbers = ns′; counts = cs′ }) (resetCall K ns cs)
+      → _≡_ {A = Stored} (record { refusal = Accepted; numbers = ns′; counts = cs′ }) (resetCall K ns cs)
   unfolding resetCall
-  reset-went {n} e k en ec = rw (← e, eq-eqb n 0 k, en, ec)
+  reset-accepted {n} e k en ec = rw (← e, eq-eqb n 0 k, en, ec)
 
 -- ---- designs
 module _ (d : DesignRecord) (ns : List Float) (cs : List ℕ) where
-  pub design-unfit : cascadePlaces ns cs ≡ false → kept ns cs BadCall ≡ designCall d ns cs
+  pub design-unfit : cascadePlaces ns cs ≡ false → notStored ns cs BadCall ≡ designCall d ns cs
   unfolding designCall
   design-unfit h = rw h
 
-  pub design-left : cascadePlaces ns cs ≡ true → (d .refusal ≡ 0 → ⊥) → kept ns cs (d .refusal) ≡ designCall d ns cs
+  pub design-refused : cascadePlaces ns cs ≡ true → (d .refusal ≡ 0 → ⊥) → notStored ns cs (d .refusal) ≡ designCall d ns cs
   unfolding designCall
-  design-left h k = rw (h, ne-eqb (d .refusal) 0 k)
+  design-refused h k = rw (h, ne-eqb (d .refusal) 0 k)
 
-  pub design-went : {ns′ : List Float} {cs′ : List ℕ} → cascadePlaces ns cs ≡ true → d .refusal ≡ 0 → ns′ ≡ cascadeNumbers (d .cascade) → cs′ ≡ cascadeCounts (d .cascade)
-      → _≡_ {A = Kept} (record { refusal = Accepted; numbers = ns′; counts = cs′ }) (designCall d ns cs)
+  pub design-accepted : {ns′ : List Float} {cs′ : List ℕ} → cascadePlaces ns cs ≡ true → d .refusal ≡ 0 → ns′ ≡ cascadeNumbers (d .cascade) → cs′ ≡ cascadeCounts (d .cascade)
+      → _≡_ {A = Stored} (record { refusal = Accepted; numbers = ns′; counts = cs′ }) (designCall d ns cs)
   unfolding designCall
-  design-went h k en ec = rw (h, eq-eqb (d .refusal) 0 k, en, ec)
+  design-accepted h k en ec = rw (h, eq-eqb (d .refusal) 0 k, en, ec)
 
 module _ (m : Made) (ts ss : List Float) (cs : List ℕ) where
-  pub made-unfit : tapsPlaces ts ss cs ≡ false → tapsLeft ts ss cs BadCall ≡ madeCall ts ss cs m
+  pub made-unfit : tapsPlaces ts ss cs ≡ false → tapsUnchanged ts ss cs BadCall ≡ madeCall ts ss cs m
   unfolding madeCall
   made-unfit h = rw h
 
-  pub made-left : tapsPlaces ts ss cs ≡ true → (m .refusal ≡ 0 → ⊥) → tapsLeft ts ss cs (m .refusal) ≡ madeCall ts ss cs m
+  pub made-refused : tapsPlaces ts ss cs ≡ true → (m .refusal ≡ 0 → ⊥) → tapsUnchanged ts ss cs (m .refusal) ≡ madeCall ts ss cs m
   unfolding madeCall
-  made-left h k = rw (h, ne-eqb (m .refusal) 0 k)
+  made-refused h k = rw (h, ne-eqb (m .refusal) 0 k)
 
-  pub made-went : {ts′ ss′ : List Float} {cs′ : List ℕ} → tapsPlaces ts ss cs ≡ true → m .refusal ≡ 0 → ts′ ≡ m .filter .taps → ss′ ≡ m .filter .samples → cs′ ≡ tapsCounts (m .filter)
-      → _≡_ {A = TapsKept} (record { refusal = Accepted; taps = ts′; samples = ss′; counts = cs′ }) (madeCall ts ss cs m)
+  pub made-accepted : {ts′ ss′ : List Float} {cs′ : List ℕ} → tapsPlaces ts ss cs ≡ true → m .refusal ≡ 0 → ts′ ≡ m .filter .taps → ss′ ≡ m .filter .samples → cs′ ≡ tapsCounts (m .filter)
+      → _≡_ {A = TapsStored} (record { refusal = Accepted; taps = ts′; samples = ss′; counts = cs′ }) (madeCall ts ss cs m)
   unfolding madeCall
-  made-went h k et es ec = rw (h, eq-eqb (m .refusal) 0 k, et, es, ec)
+  made-accepted h k et es ec = rw (h, eq-eqb (m .refusal) 0 k, et, es, ec)
 
 -- ---- a tap record: its samples are changed where they stand
 module _ (ts ss : List Float) (cs : List ℕ) where
@@ -194,32 +194,32 @@ module _ (ts ss : List Float) (cs : List ℕ) where
 
     module _ (x : Float) (answer : List Float) (tally : List ℕ) (single : (eqb (length answer) 1 && eqb (length tally) 1) ≡ true) {a : Answer} {ss′ : List Float} {h n : ℕ}
         (e : _≡_ {A = Step TapsRecord} (record { answer = a; state = with ss′ h }) (lentStep F (fits capacity) before x)) (g : n ≡ refusalOf a) where
-      pub fir-step-left : (n ≡ 0 → ⊥) → _≡_ {A = Call} (record { refusal = n; numbers = ss′; counts = cs; answers = answer; clouded = tally }) (stepCall (firKind ts) ss cs x answer tally)
-      fir-step-left k =
+      pub fir-step-refused : (n ≡ 0 → ⊥) → _≡_ {A = Call} (record { refusal = n; numbers = ss′; counts = cs; answers = answer; clouded = tally }) (stepCall (firKind ts) ss cs x answer tally)
+      fir-step-refused k =
           let same : ss′ ≡ ss = ap (λ (r : TapsRecord). r .samples) (step-keeps F (fits capacity) before x e (λ z. k (g ∙ z))) in
-          ap (λ (l : List Float). record { refusal = n; numbers = l; counts = cs; answers = answer; clouded = tally }) same ∙ step-left (firKind ts) ss cs x answer tally single (e ∙ fir-lent-step x) g k
+          ap (λ (l : List Float). record { refusal = n; numbers = l; counts = cs; answers = answer; clouded = tally }) same ∙ step-refused (firKind ts) ss cs x answer tally single (e ∙ fir-lent-step x) g k
 
-      pub fir-step-went : n ≡ 0 → {ys : List Float} {tally′ : List ℕ} → ys ≡ numberOf a ∷ [] → tally′ ≡ flag (isClouded a) ∷ []
+      pub fir-step-accepted : n ≡ 0 → {ys : List Float} {tally′ : List ℕ} → ys ≡ numberOf a ∷ [] → tally′ ≡ flag (isClouded a) ∷ []
           → _≡_ {A = Call} (record { refusal = Accepted; numbers = ss′; counts = set cs 1 h; answers = ys; clouded = tally′ }) (stepCall (firKind ts) ss cs x answer tally)
-      fir-step-went k ey et = step-went (firKind ts) ss cs x answer tally single (e ∙ fir-lent-step x) g k refl (counts-set ss′ h) ey et
+      fir-step-accepted k ey et = step-accepted (firKind ts) ss cs x answer tally single (e ∙ fir-lent-step x) g k refl (counts-set ss′ h) ey et
 
     module _ (input output : List Float) (tally : List ℕ) (single : length tally ≡ 1) {ss′ o : List Float} {n d h : ℕ}
         (e : _≡_ {A = Block TapsRecord} (record { refusal = n; clouded = d; state = with ss′ h; output = o }) (lentBlock F (fits capacity) before input output)) where
-      pub fir-block-left : (n ≡ 0 → ⊥) → _≡_ {A = Call} (record { refusal = n; numbers = ss′; counts = cs; answers = o; clouded = tally }) (blockCall (firKind ts) ss cs input output tally)
-      fir-block-left k =
+      pub fir-block-refused : (n ≡ 0 → ⊥) → _≡_ {A = Call} (record { refusal = n; numbers = ss′; counts = cs; answers = o; clouded = tally }) (blockCall (firKind ts) ss cs input output tally)
+      fir-block-refused k =
           let same : ss′ ≡ ss = ap (λ (r : TapsRecord). r .samples) (block-keeps F (fits capacity) before input output e k .0) in
           ap (λ (l : List Float). record { refusal = n; numbers = l; counts = cs; answers = o; clouded = tally }) same
-          ∙ block-left (firKind ts) ss cs input output tally single (e ∙ fir-lent-block input output) k
+          ∙ block-refused (firKind ts) ss cs input output tally single (e ∙ fir-lent-block input output) k
 
-      pub fir-block-went : n ≡ 0 → {tally′ : List ℕ} → tally′ ≡ d ∷ []
+      pub fir-block-accepted : n ≡ 0 → {tally′ : List ℕ} → tally′ ≡ d ∷ []
           → _≡_ {A = Call} (record { refusal = Accepted; numbers = ss′; counts = set cs 1 h; answers = o; clouded = tally′ }) (blockCall (firKind ts) ss cs input output tally)
-      fir-block-went k et = block-went (firKind ts) ss cs input output tally single (e ∙ fir-lent-block input output) k refl (counts-set ss′ h) et
+      fir-block-accepted k et = block-accepted (firKind ts) ss cs input output tally single (e ∙ fir-lent-block input output) k refl (counts-set ss′ h) et
 
     module _ {ss′ : List Float} {n h : ℕ} (e : _≡_ {A = Reset TapsRecord} (record { refusal = n; state = with ss′ h }) (lentReset F (fits capacity) before)) where
-      pub fir-reset-left : (n ≡ 0 → ⊥) → kept ss′ cs n ≡ resetCall (firKind ts) ss cs
-      fir-reset-left k =
+      pub fir-reset-refused : (n ≡ 0 → ⊥) → notStored ss′ cs n ≡ resetCall (firKind ts) ss cs
+      fir-reset-refused k =
           let same : ss′ ≡ ss = ap (λ (r : TapsRecord). r .samples) (reset-keeps F (fits capacity) before e k) in
-          ap (λ (l : List Float). kept l cs n) same ∙ reset-left (firKind ts) ss cs (e ∙ fir-lent-reset) k
+          ap (λ (l : List Float). notStored l cs n) same ∙ reset-refused (firKind ts) ss cs (e ∙ fir-lent-reset) k
 
-      pub fir-reset-went : n ≡ 0 → kept ss′ (set cs 1 h) Accepted ≡ resetCall (firKind ts) ss cs
-      fir-reset-went k = reset-went (firKind ts) ss cs (e ∙ fir-lent-reset) k refl (counts-set ss′ h)
+      pub fir-reset-accepted : n ≡ 0 → notStored ss′ (set cs 1 h) Accepted ≡ resetCall (firKind ts) ss cs
+      fir-reset-accepted k = reset-accepted (firKind ts) ss cs (e ∙ fir-lent-reset) k refl (counts-set ss′ h)

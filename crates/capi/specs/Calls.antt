@@ -33,50 +33,50 @@ module _ (K : Kind) (numbers : List Float) (counts : List ℕ) where
 
   module _ (answers : List Float) (tally : List ℕ) where
     -- a refused call
-    abbrev pub left : ℕ → Call
-    left n = record { refusal = n; numbers = numbers; counts = counts; answers = answers; clouded = tally }
+    abbrev pub unchanged : ℕ → Call
+    unchanged n = record { refusal = n; numbers = numbers; counts = counts; answers = answers; clouded = tally }
 
     -- an accepted one, by the record after it, its answers and how many were Clouded
-    abbrev pub went : K .filter .State → List Float → ℕ → Call
-    went s ys n = record { refusal = Accepted; numbers = K .numbers s; counts = K .counts s; answers = ys; clouded = n ∷ [] }
+    abbrev pub accepted : K .filter .State → List Float → ℕ → Call
+    accepted s ys n = record { refusal = Accepted; numbers = K .numbers s; counts = K .counts s; answers = ys; clouded = n ∷ [] }
 
     abbrev pub stepped : Step (K .filter .State) → Call
-    stepped s = cond (eqb (refusalOf (s .answer)) Accepted) (went (s .state) (numberOf (s .answer) ∷ []) (flag (isClouded (s .answer)))) (left (refusalOf (s .answer)))
+    stepped s = cond (eqb (refusalOf (s .answer)) Accepted) (accepted (s .state) (numberOf (s .answer) ∷ []) (flag (isClouded (s .answer)))) (unchanged (refusalOf (s .answer)))
 
     abbrev pub ran : Block (K .filter .State) → Call
-    ran b = cond (eqb (b .refusal) Accepted) (went (b .state) (b .output) (b .clouded)) (left (b .refusal))
+    ran b = cond (eqb (b .refusal) Accepted) (accepted (b .state) (b .output) (b .clouded)) (unchanged (b .refusal))
 
   -- one sample x: its answer goes to one place, and so does how many answers were Clouded, 0 or 1
   unfoldable pub stepCall : Float → List Float → List ℕ → Call
   stepCall x answer tally =
-      cond (eqb (length answer) 1 && eqb (length tally) 1) (stepped answer tally (lentStep (K .filter) fitting recordOf x)) (left answer tally BadCall)
+      cond (eqb (length answer) 1 && eqb (length tally) 1) (stepped answer tally (lentStep (K .filter) fitting recordOf x)) (unchanged answer tally BadCall)
 
   -- a block: its answers go to the first places of the output, and how many were Clouded to one place
   unfoldable pub blockCall : List Float → List Float → List ℕ → Call
   blockCall input output tally =
-      cond (eqb (length tally) 1) (ran output tally (lentBlock (K .filter) fitting recordOf input output)) (left output tally BadCall)
+      cond (eqb (length tally) 1) (ran output tally (lentBlock (K .filter) fitting recordOf input output)) (unchanged output tally BadCall)
 
 -- ---- a reset
-pub record Kept : Type 0 where
+pub record Stored : Type 0 where
   pub refusal : ℕ
   pub numbers : List Float
   pub counts : List ℕ
 
 -- slices as they were
-abbrev pub kept : List Float → List ℕ → ℕ → Kept
-kept numbers counts n = record { refusal = n; numbers = numbers; counts = counts }
+abbrev pub notStored : List Float → List ℕ → ℕ → Stored
+notStored numbers counts n = record { refusal = n; numbers = numbers; counts = counts }
 
-unfoldable pub resetCall : Kind → List Float → List ℕ → Kept
+unfoldable pub resetCall : Kind → List Float → List ℕ → Stored
 resetCall K numbers counts =
     let s = lentReset (K .filter) (fitting K numbers counts) (recordOf K numbers counts) in
-    cond (eqb (s .refusal) Accepted) (record { refusal = Accepted; numbers = K .numbers (s .state); counts = K .counts (s .state) }) (kept numbers counts (s .refusal))
+    cond (eqb (s .refusal) Accepted) (record { refusal = Accepted; numbers = K .numbers (s .state); counts = K .counts (s .state) }) (notStored numbers counts (s .refusal))
 
 -- ---- a cascade's design into slices
-unfoldable pub designCall : DesignRecord → List Float → List ℕ → Kept
+unfoldable pub designCall : DesignRecord → List Float → List ℕ → Stored
 designCall d numbers counts =
     cond (cascadePlaces numbers counts)
-    (cond (eqb (d .refusal) Accepted) (record { refusal = Accepted; numbers = cascadeNumbers (d .cascade); counts = cascadeCounts (d .cascade) }) (kept numbers counts (d .refusal)))
-    (kept numbers counts BadCall)
+    (cond (eqb (d .refusal) Accepted) (record { refusal = Accepted; numbers = cascadeNumbers (d .cascade); counts = cascadeCounts (d .cascade) }) (notStored numbers counts (d .refusal)))
+    (notStored numbers counts BadCall)
 
 -- ---- taps, designed or ready-made, into slices
 
@@ -84,25 +84,25 @@ designCall d numbers counts =
 abbrev pub windowOf : ℕ → WindowType
 windowOf n = cond (eqb n 0) WindowType.Rectangular (cond (eqb n 1) WindowType.Hamming (cond (eqb n 2) WindowType.Hanning WindowType.Blackman))
 
-pub record TapsKept : Type 0 where
+pub record TapsStored : Type 0 where
   pub refusal : ℕ
   pub taps : List Float
   pub samples : List Float
   pub counts : List ℕ
 
 module _ (taps samples : List Float) (counts : List ℕ) where
-  abbrev pub tapsLeft : ℕ → TapsKept
-  tapsLeft n = record { refusal = n; taps = taps; samples = samples; counts = counts }
+  abbrev pub tapsUnchanged : ℕ → TapsStored
+  tapsUnchanged n = record { refusal = n; taps = taps; samples = samples; counts = counts }
 
   unfoldable pub tapsPlaces : Bool
   tapsPlaces = eqb (length taps) capacity && (eqb (length samples) capacity && eqb (length counts) 3)
 
-  unfoldable pub madeCall : Made → TapsKept
+  unfoldable pub madeCall : Made → TapsStored
   madeCall m =
       cond tapsPlaces
-      (cond (eqb (m .refusal) Accepted) (record { refusal = Accepted; taps = m .filter .taps; samples = m .filter .samples; counts = tapsCounts (m .filter) }) (tapsLeft (m .refusal)))
-      (tapsLeft BadCall)
+      (cond (eqb (m .refusal) Accepted) (record { refusal = Accepted; taps = m .filter .taps; samples = m .filter .samples; counts = tapsCounts (m .filter) }) (tapsUnchanged (m .refusal)))
+      (tapsUnchanged BadCall)
 
   -- a FIR design by the window's code; there is none above 3
-  unfoldable pub firCall : ℕ → Float → ℕ → TapsKept
-  firCall n cutoff window = cond (leb window Blackman) (madeCall (firLp n cutoff (windowOf window))) (tapsLeft BadCall)
+  unfoldable pub firCall : ℕ → Float → ℕ → TapsStored
+  firCall n cutoff window = cond (leb window Blackman) (madeCall (firLp n cutoff (windowOf window))) (tapsUnchanged BadCall)

@@ -8,6 +8,7 @@ ghost use Rattle.designs.specs.LowPass.{butterworthLp, butterworthHp, chebyshev
 ghost use Rattle.designs.specs.BandPass.{butterworthBp};
 ghost use Rattle.designs.specs.View.{designView};
 ghost use Rattle.capi.specs.Calls.{designCall, tapsPlaces, madeCall, firCall, windowOf};
+use super::layout::COUNTS;
 use super::layout::has_places;
 use super::layout::put_counts;
 use super::layout::write;
@@ -146,7 +147,7 @@ fn has_tap_places(taps: &[f64], samples: &[f64], counts: &[usize]) -> bool
     if samples.len() != TapRecord::MAX_TAPS {
         return false;
     }
-    counts.len() == 3
+    counts.len() == COUNTS
 }
 
 // One slice into another of its length.

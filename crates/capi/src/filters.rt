@@ -4,6 +4,7 @@ ghost use Rattle.capi.specs.Layout.{firKind};
 ghost use Rattle.capi.specs.Calls.{stepCall, blockCall, resetCall};
 use super::answer::put;
 use super::answer::single;
+use super::layout::COUNTS;
 
 // One sample x.
 #[no_mangle]
@@ -21,7 +22,7 @@ pub extern "C" fn pulse_fir_step(
     if !single(answer, clouded) {
         return runs::BAD_CALL;
     }
-    if counts.len() != 3 {
+    if counts.len() != COUNTS {
         return runs::BAD_CALL;
     }
     let s = taps::update(taps, samples, counts[0], counts[1], counts[2], x);
@@ -51,7 +52,7 @@ pub extern "C" fn pulse_fir_block(
     if clouded.len() != 1 {
         return runs::BAD_CALL;
     }
-    if counts.len() != 3 {
+    if counts.len() != COUNTS {
         return runs::BAD_CALL;
     }
     let b = blocks::block(
@@ -78,7 +79,7 @@ pub extern "C" fn pulse_fir_reset(taps: &[f64], samples: &mut [f64], counts: &mu
     ensures { λ r. ⌜ record { refusal = r; numbers = now (samples .exit); counts = now (counts .exit) }
         ≡ resetCall (firKind (now (taps .entry))) (now (samples .entry)) (now (counts .entry)) ⌝ }
 {
-    if counts.len() != 3 {
+    if counts.len() != COUNTS {
         return runs::BAD_CALL;
     }
     let w = taps::reset(taps, samples, counts[0], counts[1], counts[2]);

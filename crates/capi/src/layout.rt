@@ -12,9 +12,11 @@ use cascade::Cascade;
 use sections::FirstOrder;
 use sections::Section;
 
+// How many numbers a cascade has.
 const NUMBERS: usize = 32;
 
-const COUNTS: usize = 3;
+// How many counts either kind of record has.
+pub(crate) const COUNTS: usize = 3;
 
 // Whether slices have the places of a cascade.
 pub(crate) fn has_places(numbers: &[f64], counts: &[usize]) -> bool

@@ -115,7 +115,7 @@ fn within(at: usize, m: usize, length: usize) -> bool
 }
 
 // The outputs of the first n taps at places at to at + m - 1 of x, put into the output from place `to` on, and true; or false
-// and the output as it was, where a place is missing.
+// and the output as it was, where a place is missing or there are not n samples before place `at`.
 pub fn convolve(
     taps: &[f64],
     n: usize,

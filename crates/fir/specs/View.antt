@@ -27,6 +27,6 @@ madeView m = record { refusal = m .refusal; filter = tapsView (m .filter) }
 abbrev pub blockView : Blocked → List Float → Block TapsRecord
 blockView r output = record { refusal = r .refusal; clouded = r .clouded; state = tapsView (r .filter); output = output }
 
--- a fresh record at f64 and that capacity
+-- a fresh record at f64 and the code's capacity
 abbrev pub FreshTaps : TapsRecord → Type 0
 FreshTaps r = Fresh (fir capacity binary64) r

@@ -154,6 +154,32 @@ step-parts F s x {a} {s′} h e =
     let q : a ≡ answer F s x = ap (λ (z : Step (F .State)). z .answer) p in
     (ap numberOf q ∙ number-marked (F .mark s x) (F .value s x), ap isClouded q ∙ clouded-marked (F .mark s x) (F .value s x), ap (λ (z : Step (F .State)). z .state) p)
 
+-- ---- single steps over an input, of any record: sample i is next, and the answers so far stand in the output
+pub record Stepping (F : Filter) (s₀ : F .State) (input output₀ : List Float) (s : F .State) (output : List Float) (i : ℕ) : Type 0 where
+  pub same : length output ≡ length output₀
+  pub places : take i output ++ written (answers F s (drop i input)) (drop i output) ≡ written (answers F s₀ input) output₀
+
+module _ (F : Filter) (s₀ : F .State) (input output₀ : List Float) where
+  pub steps-start : Stepping F s₀ input output₀ s₀ output₀ 0
+  steps-start = record { same = refl; places = refl }
+
+  pub steps-turn : {s s′ : F .State} {output : List Float} {i : ℕ} {a : Answer} {y : Float} → i < length input → i < length output
+      → record { answer = a; state = s′ } ≡ step F s (getD input i nan) → y ≡ placed a (getD output i nan) → Stepping F s₀ input output₀ s output i → Stepping F s₀ input output₀ s′ (set output i y) (i + 1)
+  unfolding answers written
+  steps-turn {s} {s′} {output} {i} {a} {y} h k e ey p =
+      let d = drop-cons input i nan h in
+      let o = drop-cons output i nan k in
+      record {
+        same = rw length-set (p .same);
+        places = rw (add-one, take-suc-set output i y k, drop-set-lt (suc i) output i y (omega arith), append-assoc) (rw (d, o, ← e, ← ey) at (p .places));
+      }
+
+  pub steps-done : {s : F .State} {output : List Float} {i : ℕ} → length input ≤ i → Stepping F s₀ input output₀ s output i → output ≡ written (answers F s₀ input) output₀
+  unfolding answers written
+  steps-done {s} {output} {i} h p =
+      let z = drop-of-length-le input {i = i} h in
+      sym (take-append-drop i output) ∙ (rw z at (p .places))
+
 -- an order, or a number of taps, that is not refused
 pub good-order : (n most : ℕ) → orderRefused n most ≡ false → (0 < n) × (n ≤ most)
 unfolding orderRefused

@@ -9,7 +9,7 @@ use lib.ListN.{length}
 use lib.Ieee.{Float}
 use Rattle.runs.specs.Refusals.{Accepted, ShortOutput}
 use Rattle.runs.specs.Runs as Runs
-use Rattle.runs.specs.Runs.{Answer, clear, clouded, refused, marked, cloudedIn, written, Filter, Fresh}
+use Rattle.runs.specs.Runs.{Answer, clear, clouded, refused, marked, refusalOf, cloudedIn, written, Filter, Fresh}
 
 -- a call with its arguments other than the record; a block brings its own input and output
 pub data Call : Type 0 where
@@ -118,11 +118,6 @@ unfoldable pub places : List Bool → List Float → List (Option Float)
 places [] output = map some output
 places (d ∷ ds) [] = []
 places (d ∷ ds) (y ∷ output) = shown d y ∷ places ds output
-
-abbrev pub refusalOf : Answer → ℕ
-refusalOf (clear y) = Accepted
-refusalOf (clouded y) = Accepted
-refusalOf (refused n) = n
 
 -- what is seen of an outcome: a step's refusal, and its answer; a block's refusal, its count where all its answers are due, and its places; a reset's refusal
 pub data Seen : Type 0 where

@@ -32,6 +32,6 @@ BadCascade = 11
 abbrev pub BadTaps : ℕ
 BadTaps = 12
 
--- of a call on lent slices: a slice, a flag or a code that the record cannot have
+-- of a call on lent slices: a slice of another length than asked for, a flag that is neither 0 nor 1, or a code that no design has
 abbrev pub BadCall : ℕ
 BadCall = 13

@@ -1,10 +1,10 @@
-// What running has in common, whatever the filter: the answer to a sample, and the refusal numbers. What a step and a
-// reset are, for any filter, width and capacity, stands in specs/.
+// What running has in common, whatever the filter: the answer to a sample, and the refusal numbers. What a step, a
+// block and a reset are, for any filter, width and capacity, stands in specs/.
 ghost use mathlib.Core.Path.{_≡_};
 ghost use Rattle.runs.specs.Runs.{numberOf, isClouded, refusalOf};
 ghost use Rattle.runs.specs.View.{answerView};
 
-// 01's refusal numbers, from the input, under 003's names.
+// 01's refusal numbers, from the input; the first four under 003's names.
 pub const INVALID_ORDER: u8 = 1;
 
 pub const INVALID_FREQUENCY: u8 = 2;
@@ -20,7 +20,8 @@ pub const BAD_CASCADE: u8 = 11;
 
 pub const BAD_TAPS: u8 = 12;
 
-// From a call on lent slices: a slice, a flag or a code that the record cannot have.
+// From a call on lent slices: a slice of another length than asked for, a flag that is neither 0 nor 1, or a code that no
+// design has.
 pub const BAD_CALL: u8 = 13;
 
 // 01's run answer.

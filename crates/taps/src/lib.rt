@@ -150,29 +150,29 @@ fn fit(taps: &[f64], samples: &[f64]) -> bool
 }
 
 // Whether a record of these counts passes its check. One that does not is refused by 12.
-fn check(length: usize, held: usize, window: usize) -> bool
-    ensures { λ r. ⌜ r ≡ checkTaps capacity (lentTaps [] [] length held window) ⌝ }
+fn check(size: usize, held: usize, window: usize) -> bool
+    ensures { λ r. ⌜ r ≡ checkTaps capacity (lentTaps [] [] size held window) ⌝ }
 {
-    if length < 1 {
+    if size < 1 {
         return false;
     }
-    if length > MAX_TAPS {
+    if size > MAX_TAPS {
         return false;
     }
-    if held > length {
+    if held > size {
         return false;
     }
     window <= READY_MADE
 }
 
 // The number that refuses a record, or 0.
-pub fn refusal_of(taps: &[f64], samples: &[f64], length: usize, held: usize, window: usize) -> u8
-    ensures { λ r. ⌜ r ≡ lentRefusal (fir capacity binary64) (fits capacity) (lentTaps (now (taps .entry)) (now (samples .entry)) length held window) ⌝ }
+pub fn refusal_of(taps: &[f64], samples: &[f64], size: usize, held: usize, window: usize) -> u8
+    ensures { λ r. ⌜ r ≡ lentRefusal (fir capacity binary64) (fits capacity) (lentTaps (now (taps .entry)) (now (samples .entry)) size held window) ⌝ }
 {
     if !fit(taps, samples) {
         return runs::BAD_CALL;
     }
-    if !check(length, held, window) {
+    if !check(size, held, window) {
         return runs::BAD_TAPS;
     }
     0
@@ -182,22 +182,22 @@ pub fn refusal_of(taps: &[f64], samples: &[f64], length: usize, held: usize, win
 pub fn update(
     taps: &[f64],
     samples: &mut [f64],
-    length: usize,
+    size: usize,
     held: usize,
     window: usize,
     x: f64,
 ) -> Stepped
-    ensures { λ r. ⌜ record { answer = answerView (r .answer); state = lentTaps (now (taps .entry)) (now (samples .exit)) length (r .held) window }
-        ≡ lentStep (fir capacity binary64) (fits capacity) (lentTaps (now (taps .entry)) (now (samples .entry)) length held window) x ⌝ }
+    ensures { λ r. ⌜ record { answer = answerView (r .answer); state = lentTaps (now (taps .entry)) (now (samples .exit)) size (r .held) window }
+        ≡ lentStep (fir capacity binary64) (fits capacity) (lentTaps (now (taps .entry)) (now (samples .entry)) size held window) x ⌝ }
 {
-    let refusal = refusal_of(taps, samples, length, held, window);
+    let refusal = refusal_of(taps, samples, size, held, window);
     if refusal != 0 {
         return Stepped {
             answer: Answer::Refused(refusal),
             held,
         };
     }
-    let p = pass(taps, samples, length, held, x);
+    let p = pass(taps, samples, size, held, x);
     if p.clouded {
         Stepped {
             answer: Answer::Clouded(p.out),
@@ -223,17 +223,11 @@ fn clear(samples: &mut [f64])
 }
 
 // Makes all sample places +0 and the held count 0.
-pub fn reset(
-    taps: &[f64],
-    samples: &mut [f64],
-    length: usize,
-    held: usize,
-    window: usize,
-) -> WasReset
-    ensures { λ r. ⌜ record { refusal = r .refusal; state = lentTaps (now (taps .entry)) (now (samples .exit)) length (r .held) window }
-        ≡ lentReset (fir capacity binary64) (fits capacity) (lentTaps (now (taps .entry)) (now (samples .entry)) length held window) ⌝ }
+pub fn reset(taps: &[f64], samples: &mut [f64], size: usize, held: usize, window: usize) -> WasReset
+    ensures { λ r. ⌜ record { refusal = r .refusal; state = lentTaps (now (taps .entry)) (now (samples .exit)) size (r .held) window }
+        ≡ lentReset (fir capacity binary64) (fits capacity) (lentTaps (now (taps .entry)) (now (samples .entry)) size held window) ⌝ }
 {
-    let refusal = refusal_of(taps, samples, length, held, window);
+    let refusal = refusal_of(taps, samples, size, held, window);
     if refusal != 0 {
         return WasReset { refusal, held };
     }

@@ -22,7 +22,7 @@ returns c = lent-step-refused (fir capacity binary64) (fits capacity) _ _ (c .be
 
 -- a record that is not refused
 abbrev lent-of : tie.Else1 → TapsRecord
-lent-of e = let a = e .before .before .before .before .before .args in lentTaps (a .taps .now) (a .samples .now) (a .length) (a .held) (a .window)
+lent-of e = let a = e .before .before .before .before .before .args in lentTaps (a .taps .now) (a .samples .now) (a .size) (a .held) (a .window)
 
 good : (e : tie.Else1) → (fits capacity (lent-of e) ≡ true) × (checkTaps capacity (lent-of e) ≡ true)
 good e = lent-good (fir capacity binary64) (fits capacity) (lent-of e) (λ z. omega arith) (sym (e .before .refusal-of .ensures) ∙ e .if1 .left)

@@ -10,7 +10,7 @@ use Rattle.cascade.specs.View.{blockView}
 use Rattle.capi.specs.Layout.{cascadeFits, cascadeKind}
 use Rattle.capi.specs.Calls.{fitting, recordOf}
 use Rattle.capi.proofs.Places.{set-one}
-use Rattle.capi.proofs.Laws.{fits-lengths, block-not-single, block-unfit, lend-block, block-left, block-went}
+use Rattle.capi.proofs.Laws.{fits-lengths, block-not-single, block-unfit, lend-block, block-refused, block-accepted}
 use borrow.Author.Needs.{needs}
 use Rattle.capi.proofs.cascades.pulse_cascade_block.Statement.{statement}
 use Rattle.capi.proofs.cascades.pulse_cascade_block.Tie as tie
@@ -27,10 +27,10 @@ fit e = sym (e .before .fits2 .ensures) ∙ not-false _ (e .if2 .left)
 abbrev else2 : tie.After-block → tie.Else2
 else2 r = r .before .before .before .before .before
 
-went : (r : tie.After-block) → let a = start (else1 (else2 r)) .args in
+accepted : (r : tie.After-block) → let a = start (else1 (else2 r)) .args in
     blockView (r .block .result) (r .block .last .1 .1 .0)
     ≡ lentBlock (cascadeKind .filter) (fitting cascadeKind (a .numbers .now) (a .counts .now)) (recordOf cascadeKind (a .numbers .now) (a .counts .now)) (a .input .now) (a .output .now)
-went r = let a = start (else1 (else2 r)) .args in
+accepted r = let a = start (else1 (else2 r)) .args in
     lend-block cascadeKind (a .numbers .now) (a .counts .now) (fit (else2 r)) (r .before .before .read .ensures) (a .input .now) (a .output .now) (r .block .ensures)
 
 returns : tie.Need-returns
@@ -65,7 +65,7 @@ same-length-5 c = search needs
 
 returns-3 : tie.Need-returns-3
 returns-3 c = let r = c .before .before .before in
-    block-left cascadeKind _ _ _ _ _ (else1 (else2 r) .if1 .left) (went r) (c .if3 .taken)
+    block-refused cascadeKind _ _ _ _ _ (else1 (else2 r) .if1 .left) (accepted r) (c .if3 .taken)
 
 write-requires : tie.Need-write-requires
 write-requires c κs = fits-lengths _ _ (fit (c .before .before .before .before .before .before .before .before .before .before))
@@ -89,7 +89,7 @@ returns-4 : tie.Need-returns-4
 returns-4 c = let r = c .before .before .before .before .before .before .before .before .before .before in
     let e = else1 (else2 r) in
     let w = c .before .before .before .before .write .ensures in
-    block-went cascadeKind _ _ _ _ _ (e .if1 .left) (went r) (c .before .before .before .before .before .before .before .if3 .left) (w .0) (w .1) (set-one (start e .args .clouded .now) _ (e .if1 .left))
+    block-accepted cascadeKind _ _ _ _ _ (e .if1 .left) (accepted r) (c .before .before .before .before .before .before .before .if3 .left) (w .0) (w .1) (set-one (start e .args .clouded .now) _ (e .if1 .left))
 
 pub pulse-cascade-block-spec : {M : Type 1} → statement M
 pulse-cascade-block-spec =

@@ -9,7 +9,7 @@ use Rattle.runs.specs.Lent.{lentReset}
 use Rattle.cascade.specs.View.{resetView}
 use Rattle.capi.specs.Layout.{cascadeFits, cascadeKind}
 use Rattle.capi.specs.Calls.{fitting, recordOf}
-use Rattle.capi.proofs.Laws.{fits-lengths, reset-unfit, lend-reset, reset-left, reset-went}
+use Rattle.capi.proofs.Laws.{fits-lengths, reset-unfit, lend-reset, reset-refused, reset-accepted}
 use borrow.Author.Needs.{needs}
 use Rattle.capi.proofs.cascades.pulse_cascade_reset.Statement.{statement}
 use Rattle.capi.proofs.cascades.pulse_cascade_reset.Tie as tie
@@ -23,9 +23,9 @@ fit e = sym (e .before .fits2 .ensures) ∙ not-false _ (e .if1 .left)
 abbrev else1 : tie.After-reset → tie.Else1
 else1 r = r .before .before .before .before
 
-went : (r : tie.After-reset) → let a = start (else1 r) .args in
+accepted : (r : tie.After-reset) → let a = start (else1 r) .args in
     resetView (r .reset .result) ≡ lentReset (cascadeKind .filter) (fitting cascadeKind (a .numbers .now) (a .counts .now)) (recordOf cascadeKind (a .numbers .now) (a .counts .now))
-went r = let a = start (else1 r) .args in
+accepted r = let a = start (else1 r) .args in
     lend-reset cascadeKind (a .numbers .now) (a .counts .now) (fit (else1 r)) (r .before .read .ensures) (r .reset .ensures)
 
 fits-requires : tie.Need-fits-requires
@@ -53,7 +53,7 @@ same-length-4 : tie.Need-same-length-4
 same-length-4 c = search needs
 
 returns-2 : tie.Need-returns-2
-returns-2 c = reset-left cascadeKind _ _ (went (c .before)) (c .if2 .taken)
+returns-2 c = reset-refused cascadeKind _ _ (accepted (c .before)) (c .if2 .taken)
 
 write-requires : tie.Need-write-requires
 write-requires c κs = fits-lengths _ _ (fit (c .before .before .before .before .before .before .before))
@@ -66,7 +66,7 @@ same-length-6 c = search needs
 
 returns-3 : tie.Need-returns-3
 returns-3 c = let w = c .before .before .before .before .write .ensures in
-    reset-went cascadeKind _ _ (went (c .before .before .before .before .before .before .before .before)) (c .before .before .before .before .before .before .before .if2 .left) (w .0) (w .1)
+    reset-accepted cascadeKind _ _ (accepted (c .before .before .before .before .before .before .before .before)) (c .before .before .before .before .before .before .before .if2 .left) (w .0) (w .1)
 
 pub pulse-cascade-reset-spec : {M : Type 1} → statement M
 pulse-cascade-reset-spec =

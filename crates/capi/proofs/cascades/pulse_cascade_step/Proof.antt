@@ -11,7 +11,7 @@ use Rattle.cascade.specs.Cascade.{CascadeRecord}
 use Rattle.cascade.specs.View.{cascadeView, updatedView}
 use Rattle.capi.specs.Layout.{cascadeFits, cascadeKind}
 use Rattle.capi.specs.Calls.{fitting, recordOf}
-use Rattle.capi.proofs.Laws.{fits-lengths, single-lengths, step-not-single, step-unfit, lend-step, step-left, step-went}
+use Rattle.capi.proofs.Laws.{fits-lengths, single-lengths, step-not-single, step-unfit, lend-step, step-refused, step-accepted}
 use borrow.Author.Needs.{needs}
 use Rattle.capi.proofs.cascades.pulse_cascade_step.Statement.{statement}
 use Rattle.capi.proofs.cascades.pulse_cascade_step.Tie as tie
@@ -31,9 +31,9 @@ fit e = sym (e .before .fits2 .ensures) ∙ not-false _ (e .if2 .left)
 abbrev else2 : tie.After-refusal-of → tie.Else2
 else2 r = r .before .before .before .before .before
 
-went : (r : tie.After-refusal-of) → let a = start (else1 (else2 r)) .args in
+accepted : (r : tie.After-refusal-of) → let a = start (else1 (else2 r)) .args in
     updatedView (r .before .update .result) ≡ lentStep (cascadeKind .filter) (fitting cascadeKind (a .numbers .now) (a .counts .now)) (recordOf cascadeKind (a .numbers .now) (a .counts .now)) (a .x)
-went r = let a = start (else1 (else2 r)) .args in
+accepted r = let a = start (else1 (else2 r)) .args in
     lend-step cascadeKind (a .numbers .now) (a .counts .now) (fit (else2 r)) (r .before .before .read .ensures) (a .x) (r .before .update .ensures)
 
 single-requires : tie.Need-single-requires
@@ -89,7 +89,7 @@ same-length-10 c = search needs
 
 returns-3 : tie.Need-returns-3
 returns-3 c = let r = c .before in
-    step-left cascadeKind _ _ _ _ _ (one (else1 (else2 r))) (went r) (r .refusal-of .ensures) (c .if3 .taken)
+    step-refused cascadeKind _ _ _ _ _ (one (else1 (else2 r))) (accepted r) (r .refusal-of .ensures) (c .if3 .taken)
 
 write-requires : tie.Need-write-requires
 write-requires c κs = fits-lengths _ _ (fit (else2 (c .before .before .before)))
@@ -113,7 +113,7 @@ returns-4 : tie.Need-returns-4
 returns-4 c = let r = c .before .before .before .before .before .before .before .before .before .before .before .before .before .before .before in
     let w = c .before .before .before .before .before .before .before .before .before .before .before .write .ensures in
     let p = c .before .before .before .before .put .ensures in
-    step-went cascadeKind _ _ _ _ _ (one (else1 (else2 r))) (went r) (r .refusal-of .ensures) (c .before .before .before .before .before .before .before .before .before .before .before .before .before .before .if3 .left) (w .0) (w .1) (p .0) (p .1)
+    step-accepted cascadeKind _ _ _ _ _ (one (else1 (else2 r))) (accepted r) (r .refusal-of .ensures) (c .before .before .before .before .before .before .before .before .before .before .before .before .before .before .if3 .left) (w .0) (w .1) (p .0) (p .1)
 
 pub pulse-cascade-step-spec : {M : Type 1} → statement M
 pulse-cascade-step-spec =

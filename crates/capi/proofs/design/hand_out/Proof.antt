@@ -4,7 +4,7 @@ use mathlib.Core.Bool.{true}
 use borrow.Author.Tests.{not-true, not-false}
 use Rattle.designs.specs.View.{designView}
 use Rattle.capi.specs.Layout.{cascadePlaces}
-use Rattle.capi.proofs.Laws.{places-lengths, design-unfit, design-left, design-went}
+use Rattle.capi.proofs.Laws.{places-lengths, design-unfit, design-refused, design-accepted}
 use borrow.Author.Needs.{needs}
 use Rattle.capi.proofs.design.hand_out.Statement.{statement}
 use Rattle.capi.proofs.design.hand_out.Tie as tie
@@ -31,7 +31,7 @@ same-length-4 : tie.Need-same-length-4
 same-length-4 c = search needs
 
 returns-2 : tie.Need-returns-2
-returns-2 c = design-left (designView (c .before .before .before .before .before .before .before .args .d)) _ _ (places (c .before)) (c .if2 .taken)
+returns-2 c = design-refused (designView (c .before .before .before .before .before .before .before .args .d)) _ _ (places (c .before)) (c .if2 .taken)
 
 write-requires : tie.Need-write-requires
 write-requires c κs = places-lengths _ _ (places (c .before .before .before))
@@ -44,7 +44,7 @@ same-length-6 c = search needs
 
 returns-3 : tie.Need-returns-3
 returns-3 c = let w = c .before .before .before .before .write .ensures in
-    design-went (designView (c .before .before .before .before .before .before .before .before .before .before .before .before .before .before .args .d)) _ _ (places (c .before .before .before .before .before .before .before .before)) (c .before .before .before .before .before .before .before .if2 .left) (w .0) (w .1)
+    design-accepted (designView (c .before .before .before .before .before .before .before .before .before .before .before .before .before .before .args .d)) _ _ (places (c .before .before .before .before .before .before .before .before)) (c .before .before .before .before .before .before .before .if2 .left) (w .0) (w .1)
 
 pub hand-out-spec : {M : Type 1} → statement M
 hand-out-spec =

@@ -7,7 +7,7 @@ use Rattle.taps.specs.Lent.{capacity}
 use Rattle.fir.specs.View.{madeView}
 use Rattle.capi.specs.Layout.{tapsCounts}
 use Rattle.capi.specs.Calls.{tapsPlaces}
-use Rattle.capi.proofs.Laws.{taps-lengths, made-unfit, made-left, made-went}
+use Rattle.capi.proofs.Laws.{taps-lengths, made-unfit, made-refused, made-accepted}
 use borrow.Author.Needs.{needs}
 use Rattle.capi.proofs.design.hand_out_taps.Statement.{statement}
 use Rattle.capi.proofs.design.hand_out_taps.Tie as tie
@@ -46,7 +46,7 @@ same-length-6 : tie.Need-same-length-6
 same-length-6 c = search needs
 
 returns-2 : tie.Need-returns-2
-returns-2 c = made-left (madeView (c .before .before .before .before .before .before .before .before .before .args .m)) _ _ _ (places (c .before)) (c .if2 .taken)
+returns-2 c = made-refused (madeView (c .before .before .before .before .before .before .before .before .before .args .m)) _ _ _ (places (c .before)) (c .if2 .taken)
 
 slice-aggregate-copy : tie.Need-slice-aggregate-copy
 slice-aggregate-copy c = search needs
@@ -77,7 +77,7 @@ same-length-9 c = search needs
 
 returns-3 : tie.Need-returns-3
 unfolding tapsCounts
-returns-3 c = made-went (madeView (c .before .before .before .before .before .before .before .before .before .before .before .before .before .before .before .before .before .before .before .before .before .before .before .before .before .before .args .m)) _ _ _ (places (c .before .before .before .before .before .before .before .before .before .before .before .before .before .before .before .before .before .before)) (c .before .before .before .before .before .before .before .before .before .before .before .before .before .before .before .before .before .if2 .left) (c .before .before .before .before .before .before .before .before .before .before .before .copy .ensures) (c .before .before .before .before .before .before .copy2 .ensures) (c .before .before .put-counts .ensures)
+returns-3 c = made-accepted (madeView (c .before .before .before .before .before .before .before .before .before .before .before .before .before .before .before .before .before .before .before .before .before .before .before .before .before .before .args .m)) _ _ _ (places (c .before .before .before .before .before .before .before .before .before .before .before .before .before .before .before .before .before .before)) (c .before .before .before .before .before .before .before .before .before .before .before .before .before .before .before .before .before .if2 .left) (c .before .before .before .before .before .before .before .before .before .before .before .copy .ensures) (c .before .before .before .before .before .before .copy2 .ensures) (c .before .before .put-counts .ensures)
 
 pub hand-out-taps-spec : {M : Type 1} → statement M
 hand-out-taps-spec =

@@ -1,7 +1,7 @@
 -- `capi::filters::pulse_fir_block` meets its contract. Assumes nothing.
 use Rattle.capi.specs.Layout.{firKind}
 use Rattle.capi.proofs.Places.{set-one}
-use Rattle.capi.proofs.Laws.{block-not-single, block-unfit, uncounted, fir-block-left, fir-block-went}
+use Rattle.capi.proofs.Laws.{block-not-single, block-unfit, uncounted, fir-block-refused, fir-block-accepted}
 use borrow.Author.Needs.{needs}
 use Rattle.capi.proofs.filters.pulse_fir_block.Statement.{statement}
 use Rattle.capi.proofs.filters.pulse_fir_block.Tie as tie
@@ -36,7 +36,7 @@ same-length-2 c = search needs
 
 returns-3 : tie.Need-returns-3
 returns-3 c = let a = start (c .before .before .before .before .before .before .before .before .before .before .before .before) .args in
-    fir-block-left (a .taps .now) (a .samples .now) (a .counts .now) (c .before .before .before .before .before .before .before .before .before .before .before .if2 .left) (a .input .now) (a .output .now) (a .clouded .now) (c .before .before .before .before .before .before .before .before .before .before .before .before .if1 .left) (c .before .before .before .before .before .block .ensures) (c .if3 .taken)
+    fir-block-refused (a .taps .now) (a .samples .now) (a .counts .now) (c .before .before .before .before .before .before .before .before .before .before .before .if2 .left) (a .input .now) (a .output .now) (a .clouded .now) (c .before .before .before .before .before .before .before .before .before .before .before .before .if1 .left) (c .before .before .before .before .before .block .ensures) (c .if3 .taken)
 
 slice-write-counts : tie.Need-slice-write-counts
 slice-write-counts c = search needs
@@ -58,7 +58,7 @@ same-length-6 c = search needs
 
 returns-4 : tie.Need-returns-4
 returns-4 c = let a = start (c .before .before .before .before .before .before .before .before .before .before .before .before) .args in
-    fir-block-went (a .taps .now) (a .samples .now) (a .counts .now) (c .before .before .before .before .before .before .before .before .before .before .before .if2 .left) (a .input .now) (a .output .now) (a .clouded .now) (c .before .before .before .before .before .before .before .before .before .before .before .before .if1 .left) (c .before .before .before .before .before .block .ensures) (c .if3 .left)
+    fir-block-accepted (a .taps .now) (a .samples .now) (a .counts .now) (c .before .before .before .before .before .before .before .before .before .before .before .if2 .left) (a .input .now) (a .output .now) (a .clouded .now) (c .before .before .before .before .before .before .before .before .before .before .before .before .if1 .left) (c .before .before .before .before .before .block .ensures) (c .if3 .left)
     (set-one (a .clouded .now) _ (c .before .before .before .before .before .before .before .before .before .before .before .before .if1 .left))
 
 pub pulse-fir-block-spec : {M : Type 1} → statement M

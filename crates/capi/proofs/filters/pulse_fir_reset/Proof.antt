@@ -1,6 +1,6 @@
 -- `capi::filters::pulse_fir_reset` meets its contract. Assumes nothing.
 use Rattle.capi.specs.Layout.{firKind}
-use Rattle.capi.proofs.Laws.{reset-unfit, uncounted, fir-reset-left, fir-reset-went}
+use Rattle.capi.proofs.Laws.{reset-unfit, uncounted, fir-reset-refused, fir-reset-accepted}
 use borrow.Author.Needs.{needs}
 use Rattle.capi.proofs.filters.pulse_fir_reset.Statement.{statement}
 use Rattle.capi.proofs.filters.pulse_fir_reset.Tie as tie
@@ -26,7 +26,7 @@ same-length c = search needs
 
 returns-2 : tie.Need-returns-2
 returns-2 c = let a = c .before .before .before .before .before .before .before .before .before .before .before .before .args in
-    fir-reset-left (a .taps .now) (a .samples .now) (a .counts .now) (c .before .before .before .before .before .before .before .before .if1 .left) (c .before .before .before .reset .ensures) (c .if2 .taken)
+    fir-reset-refused (a .taps .now) (a .samples .now) (a .counts .now) (c .before .before .before .before .before .before .before .before .if1 .left) (c .before .before .before .reset .ensures) (c .if2 .taken)
 
 slice-write-counts : tie.Need-slice-write-counts
 slice-write-counts c = search needs
@@ -39,7 +39,7 @@ same-length-3 c = search needs
 
 returns-3 : tie.Need-returns-3
 returns-3 c = let a = c .before .before .before .before .before .before .before .before .before .before .before .before .args in
-    fir-reset-went (a .taps .now) (a .samples .now) (a .counts .now) (c .before .before .before .before .before .before .before .before .if1 .left) (c .before .before .before .reset .ensures) (c .if2 .left)
+    fir-reset-accepted (a .taps .now) (a .samples .now) (a .counts .now) (c .before .before .before .before .before .before .before .before .if1 .left) (c .before .before .before .reset .ensures) (c .if2 .left)
 
 pub pulse-fir-reset-spec : {M : Type 1} → statement M
 pulse-fir-reset-spec =

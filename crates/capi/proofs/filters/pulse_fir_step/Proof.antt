@@ -5,7 +5,7 @@ use lib.Dec.{eqb}
 use lib.ListN.{length}
 use borrow.Author.Tests.{not-true, not-false}
 use Rattle.capi.specs.Layout.{firKind}
-use Rattle.capi.proofs.Laws.{single-lengths, step-not-single, step-unfit, uncounted, fir-step-left, fir-step-went}
+use Rattle.capi.proofs.Laws.{single-lengths, step-not-single, step-unfit, uncounted, fir-step-refused, fir-step-accepted}
 use borrow.Author.Needs.{needs}
 use Rattle.capi.proofs.filters.pulse_fir_step.Statement.{statement}
 use Rattle.capi.proofs.filters.pulse_fir_step.Tie as tie
@@ -64,7 +64,7 @@ same-length-7 c = search needs
 
 returns-3 : tie.Need-returns-3
 returns-3 c = let a = start (c .before .before .before .before .before .before .before .before .before .before) .args in
-    fir-step-left (a .taps .now) (a .samples .now) (a .counts .now) (c .before .before .before .before .before .before .before .before .before .if2 .left) (a .x) (a .answer .now) (a .clouded .now) (one (c .before .before .before .before .before .before .before .before .before .before)) (c .before .before .before .before .update .ensures) (c .before .refusal-of .ensures) (c .if3 .taken)
+    fir-step-refused (a .taps .now) (a .samples .now) (a .counts .now) (c .before .before .before .before .before .before .before .before .before .if2 .left) (a .x) (a .answer .now) (a .clouded .now) (one (c .before .before .before .before .before .before .before .before .before .before)) (c .before .before .before .before .update .ensures) (c .before .refusal-of .ensures) (c .if3 .taken)
 
 slice-write-counts : tie.Need-slice-write-counts
 slice-write-counts c = search needs
@@ -87,7 +87,7 @@ same-length-11 c = search needs
 returns-4 : tie.Need-returns-4
 returns-4 c = let a = start (c .before .before .before .before .before .before .before .before .before .before .before .before .before .before .before .before .before) .args in
     let p = c .before .before .before .before .put .ensures in
-    fir-step-went (a .taps .now) (a .samples .now) (a .counts .now) (c .before .before .before .before .before .before .before .before .before .before .before .before .before .before .before .before .if2 .left) (a .x) (a .answer .now) (a .clouded .now) (one (c .before .before .before .before .before .before .before .before .before .before .before .before .before .before .before .before .before)) (c .before .before .before .before .before .before .before .before .before .before .before .update .ensures) (c .before .before .before .before .before .before .before .before .refusal-of .ensures) (c .before .before .before .before .before .before .before .if3 .left) (p .0) (p .1)
+    fir-step-accepted (a .taps .now) (a .samples .now) (a .counts .now) (c .before .before .before .before .before .before .before .before .before .before .before .before .before .before .before .before .if2 .left) (a .x) (a .answer .now) (a .clouded .now) (one (c .before .before .before .before .before .before .before .before .before .before .before .before .before .before .before .before .before)) (c .before .before .before .before .before .before .before .before .before .before .before .update .ensures) (c .before .before .before .before .before .before .before .before .refusal-of .ensures) (c .before .before .before .before .before .before .before .if3 .left) (p .0) (p .1)
 
 pub pulse-fir-step-spec : {M : Type 1} → statement M
 pulse-fir-step-spec =

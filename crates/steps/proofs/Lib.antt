@@ -1,0 +1,2 @@
+-- What the functions show where they return.
+pub mod Laws

@@ -1,0 +1,82 @@
+-- `steps::run_cascade` meets its contract. Assumes nothing.
+use Prim.Native.Nat.{_≤_, _-_}
+use native.Mathlib.Omega.{arith}
+use lib.ListN.{length}
+use lib.Ieee.{binary64}
+use borrow.Author.Needs.{needs}
+use Rattle.cascade.specs.Cascade.{cascade}
+use Rattle.cascade.specs.View.{cascadeView}
+use Rattle.runs.proofs.Laws.{Stepping, steps-start, steps-turn, steps-done}
+use Rattle.steps.proofs.run_cascade.Statement.{statement}
+use Rattle.steps.proofs.run_cascade.Tie as tie
+
+abbrev Inv-loop : tie.InvT-loop
+Inv-loop input output₀ c₀ i₀ output c i = (i ≤ length input) × Stepping (cascade binary64) (cascadeView c₀) input output₀ (cascadeView c) output i
+
+abbrev μ-loop : tie.MeasureT-loop
+μ-loop input output₀ c₀ i₀ output c i = length input - i
+
+loop-holds : tie.Need-loop-holds Inv-loop μ-loop
+loop-holds c = (omega arith, steps-start (cascade binary64) _ _ _)
+
+mul-update : tie.Need-mul-update Inv-loop μ-loop
+mul-update c = search needs
+
+shared-slice-read-update : tie.Need-shared-slice-read-update Inv-loop μ-loop
+shared-slice-read-update c = search needs
+
+update-requires : tie.Need-update-requires Inv-loop μ-loop
+update-requires c κs = search needs
+
+mul-place : tie.Need-mul-place Inv-loop μ-loop
+mul-place c = search needs
+
+slice-read-place : tie.Need-slice-read-place Inv-loop μ-loop
+slice-read-place c = let l = c .before .before .before .before in omega (arith, l .loop .inv .1 .same, l .before .before .before .pre, c .before .before .before .loop-test .taken)
+
+place-requires : tie.Need-place-requires Inv-loop μ-loop
+place-requires c κs = search needs
+
+mul-output : tie.Need-mul-output Inv-loop μ-loop
+mul-output c = search needs
+
+slice-write-output : tie.Need-slice-write-output Inv-loop μ-loop
+slice-write-output c = let l = c .before .before .before .before .before in omega (arith, l .loop .inv .1 .same, l .before .before .before .pre, c .before .before .before .before .loop-test .taken)
+
+add-i : tie.Need-add-i Inv-loop μ-loop
+add-i c = search needs
+
+loop-less : tie.Need-loop-less Inv-loop μ-loop
+loop-less c = search needs
+
+loop-again : tie.Need-loop-again Inv-loop μ-loop
+loop-again c = let l = c .before .before .before .before .before .before in
+    let h = c .before .before .before .before .before .loop-test .taken in
+    (omega arith, steps-turn (cascade binary64) _ _ _ h (omega (arith, l .loop .inv .1 .same, l .before .before .before .pre)) (c .before .before .before .update .ensures) (c .before .place .ensures) (l .loop .inv .1))
+
+same-length : tie.Need-same-length Inv-loop μ-loop
+same-length c = c .before .loop .inv .1 .same
+
+returns : tie.Need-returns Inv-loop μ-loop
+returns c = steps-done (cascade binary64) _ _ _ (omega (arith, c .loop-test .left)) (c .before .loop .inv .1)
+
+pub run-cascade-spec : {M : Type 1} → statement M
+run-cascade-spec =
+    tie.close
+    (tie.spec
+    Inv-loop
+    μ-loop
+    loop-holds
+    mul-update
+    shared-slice-read-update
+    update-requires
+    mul-place
+    slice-read-place
+    place-requires
+    mul-output
+    slice-write-output
+    add-i
+    loop-less
+    loop-again
+    same-length
+    returns)

@@ -1,0 +1,49 @@
+-- `steps::steps_cascade` meets its contract. Assumes nothing.
+use mathlib.Core.Path.{ap, _∙_}
+use lib.Ieee.{binary64}
+use Rattle.cascade.specs.Cascade.{cascade}
+use Rattle.designs.specs.Design.{DesignRecord}
+use Rattle.designs.specs.View.{designView}
+use Rattle.steps.specs.Steps.{stepsOf, cascadeSteps}
+use Rattle.steps.proofs.Laws.{steps-refused, steps-short, steps-ran}
+use borrow.Author.Needs.{needs}
+use Rattle.steps.proofs.steps_cascade.Statement.{statement}
+use Rattle.steps.proofs.steps_cascade.Tie as tie
+
+design-butterworth-lp-requires : tie.Need-design-butterworth-lp-requires
+design-butterworth-lp-requires c κs = search needs
+
+returns : tie.Need-returns
+unfolding cascadeSteps
+returns c = let a = c .before .before .before .before .args in
+    let r = designView (c .before .design-butterworth-lp .result) in
+    steps-refused (cascade binary64) (r .refusal) (r .cascade) (a .input .now) (a .output .now) (c .if1 .taken) ∙ ap (λ (d : DesignRecord). stepsOf (cascade binary64) (d .refusal) (d .cascade) (a .input .now) (a .output .now)) (c .before .design-butterworth-lp .ensures)
+
+returns-2 : tie.Need-returns-2
+unfolding cascadeSteps
+returns-2 c = let a = c .before .before .before .before .before .args in
+    let r = designView (c .before .before .design-butterworth-lp .result) in
+    steps-short (cascade binary64) (r .refusal) (r .cascade) (a .input .now) (a .output .now) (c .before .if1 .left) (c .if2 .taken) ∙ ap (λ (d : DesignRecord). stepsOf (cascade binary64) (d .refusal) (d .cascade) (a .input .now) (a .output .now)) (c .before .before .design-butterworth-lp .ensures)
+
+run-cascade-requires : tie.Need-run-cascade-requires
+run-cascade-requires c κs = search needs
+
+same-length : tie.Need-same-length
+same-length c = search needs
+
+returns-3 : tie.Need-returns-3
+unfolding cascadeSteps
+returns-3 c = let a = c .before .before .before .before .before .before .before .before .before .before .args in
+    let r = designView (c .before .before .before .before .before .before .before .design-butterworth-lp .result) in
+    steps-ran (cascade binary64) (r .refusal) (r .cascade) (a .input .now) (a .output .now) (c .before .before .before .before .before .before .if1 .left) (c .before .before .before .before .before .if2 .left) (c .before .before .run-cascade .ensures) ∙ ap (λ (d : DesignRecord). stepsOf (cascade binary64) (d .refusal) (d .cascade) (a .input .now) (a .output .now)) (c .before .before .before .before .before .before .before .design-butterworth-lp .ensures)
+
+pub steps-cascade-spec : {M : Type 1} → statement M
+steps-cascade-spec =
+    tie.close
+    (tie.spec
+    design-butterworth-lp-requires
+    returns
+    returns-2
+    run-cascade-requires
+    same-length
+    returns-3)

@@ -1,0 +1,43 @@
+-- `steps::steps_fir` meets its contract. Assumes nothing.
+use mathlib.Core.Path.{ap, _∙_}
+use lib.Ieee.{binary64}
+use Rattle.taps.specs.Fir.{Made, fir}
+use Rattle.taps.specs.Lent.{capacity}
+use Rattle.fir.specs.View.{madeView}
+use Rattle.steps.specs.Steps.{stepsOf, firSteps}
+use Rattle.steps.proofs.Laws.{steps-refused, steps-short, steps-ran}
+use borrow.Author.Needs.{needs}
+use Rattle.steps.proofs.steps_fir.Statement.{statement}
+use Rattle.steps.proofs.steps_fir.Tie as tie
+
+from-coeffs-requires : tie.Need-from-coeffs-requires
+from-coeffs-requires c κs = search needs
+
+returns : tie.Need-returns
+unfolding firSteps
+returns c = let a = c .before .before .before .before .before .args in
+    let r = madeView (c .before .from-coeffs .result) in
+    steps-refused (fir capacity binary64) (r .refusal) (r .filter) (a .input .now) (a .output .now) (c .if1 .taken) ∙ ap (λ (d : Made). stepsOf (fir capacity binary64) (d .refusal) (d .filter) (a .input .now) (a .output .now)) (c .before .from-coeffs .ensures)
+
+returns-2 : tie.Need-returns-2
+unfolding firSteps
+returns-2 c = let a = c .before .before .before .before .before .before .args in
+    let r = madeView (c .before .before .from-coeffs .result) in
+    steps-short (fir capacity binary64) (r .refusal) (r .filter) (a .input .now) (a .output .now) (c .before .if1 .left) (c .if2 .taken) ∙ ap (λ (d : Made). stepsOf (fir capacity binary64) (d .refusal) (d .filter) (a .input .now) (a .output .now)) (c .before .before .from-coeffs .ensures)
+
+run-fir-requires : tie.Need-run-fir-requires
+run-fir-requires c κs = search needs
+
+same-length : tie.Need-same-length
+same-length c = search needs
+
+returns-3 : tie.Need-returns-3
+unfolding firSteps
+returns-3 c = let a = c .before .before .before .before .before .before .before .before .before .before .before .args in
+    let r = madeView (c .before .before .before .before .before .before .before .from-coeffs .result) in
+    steps-ran (fir capacity binary64) (r .refusal) (r .filter) (a .input .now) (a .output .now) (c .before .before .before .before .before .before .if1 .left) (c .before .before .before .before .before .if2 .left) (c .before .before .run-fir .ensures) ∙ ap (λ (d : Made). stepsOf (fir capacity binary64) (d .refusal) (d .filter) (a .input .now) (a .output .now)) (c .before .before .before .before .before .before .before .from-coeffs .ensures)
+
+pub steps-fir-spec : {M : Type 1} → statement M
+steps-fir-spec =
+    tie.close
+    (tie.spec from-coeffs-requires returns returns-2 run-fir-requires same-length returns-3)

@@ -1,0 +1,2 @@
+-- Single steps over a whole input.
+pub mod Steps
