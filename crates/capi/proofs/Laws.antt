@@ -1,9 +1,9 @@
 -- What a call shows where it returns, for either kind of record. Assumes nothing.
 use mathlib.Core.Path.{_≡_, refl, sym, ap, _∙_}
-use mathlib.Core.Bool.{Bool, true, false, _&&_}
+use mathlib.Core.Bool.{Bool, true, false, _&&_, cond}
 use mathlib.Core.List.{List, [], _∷_}
 use Prim.Native.Nat.{ℕ}
-use lib.Dec.{eqb, leb}
+use lib.Dec.{eqb}
 use lib.ListN.{length, getD, set}
 use lib.Ieee.{Float, binary64}
 use borrow.Author.Tests.{eq-eqb, ne-eqb, eqb-true}
@@ -14,27 +14,25 @@ use Rattle.runs.proofs.Lent.{lent-step, lent-reset, lent-block, unfit-step, unf
 use Rattle.taps.specs.Fir.{TapsRecord, Made, fir}
 use Rattle.taps.specs.Lent.{capacity, lentTaps, fits}
 use Rattle.designs.specs.Design.{DesignRecord}
-use Rattle.capi.specs.Layout.{Kind, flag, cascadePlaces, cascadeFits, cascadeNumbers, cascadeCounts, tapsCounts, tapsAt, tapsFit, firKind}
+use Rattle.cascade.specs.Cascade.{CascadeRecord, blankCascade}
+use Rattle.layout.proofs.Laws.{fits-places, cond-true}
+use Rattle.layout.specs.Layout.{flag, cascadeAt, cascadePlaces, cascadeFits, cascadeNumbers, cascadeCounts}
+use Rattle.capi.specs.Kinds.{Kind, tapsCounts, tapsAt, tapsFit, firKind}
 use Rattle.capi.specs.Calls.{Call, Stored, TapsStored, recordOf, fitting, unchanged, stepCall, blockCall, resetCall, notStored, designCall, tapsUnchanged, tapsPlaces, madeCall}
-use Rattle.capi.proofs.Places.{both, set-middle}
+use Rattle.layout.proofs.Places.{both, set-middle}
+
+-- ---- a cascade read from slices that fit, and written into slices that have its places
+module _ (ns : List Float) (cs : List ℕ) where
+  pub read-is : {s : CascadeRecord} → cascadeFits ns cs ≡ true → s ≡ cond (cascadePlaces ns cs) (cascadeAt ns cs) blankCascade → s ≡ cascadeAt ns cs
+  read-is h e = e ∙ cond-true (cascadePlaces ns cs) (cascadeAt ns cs) blankCascade (fits-places ns cs h)
+
+  pub numbers-are : (c : CascadeRecord) {l : List Float} → cascadePlaces ns cs ≡ true → l ≡ cond (cascadePlaces ns cs) (cascadeNumbers c) ns → l ≡ cascadeNumbers c
+  numbers-are c h e = e ∙ cond-true (cascadePlaces ns cs) (cascadeNumbers c) ns h
+
+  pub counts-are : (c : CascadeRecord) {l : List ℕ} → cascadePlaces ns cs ≡ true → l ≡ cond (cascadePlaces ns cs) (cascadeCounts c) cs → l ≡ cascadeCounts c
+  counts-are c h e = e ∙ cond-true (cascadePlaces ns cs) (cascadeCounts c) cs h
 
 -- ---- the tests of lengths
-pub places-lengths : (ns : List Float) (cs : List ℕ) → cascadePlaces ns cs ≡ true → (length ns ≡ 32) × (length cs ≡ 3)
-unfolding cascadePlaces
-places-lengths ns cs h = let p = both (eqb (length ns) 32) (eqb (length cs) 3) h in (eqb-true (length ns) 32 (p .0), eqb-true (length cs) 3 (p .1))
-
-pub fits-lengths : (ns : List Float) (cs : List ℕ) → cascadeFits ns cs ≡ true → (length ns ≡ 32) × (length cs ≡ 3)
-unfolding cascadeFits
-fits-lengths ns cs h = places-lengths ns cs (both (cascadePlaces ns cs) _ h .0)
-
--- a flag that is neither 0 nor 1, and the last flag
-pub fits-flagged : (ns : List Float) (cs : List ℕ) → cascadePlaces ns cs ≡ true → leb (getD cs 1 0) 1 ≡ false → false ≡ cascadeFits ns cs
-unfolding cascadeFits
-fits-flagged ns cs h k = rw (h, k)
-
-pub fits-last : (ns : List Float) (cs : List ℕ) → cascadePlaces ns cs ≡ true → leb (getD cs 1 0) 1 ≡ true → leb (getD cs 2 0) 1 ≡ cascadeFits ns cs
-unfolding cascadeFits
-fits-last ns cs h k = rw (h, k)
 
 -- slices of a tap record
 pub taps-last : (ts ss : List Float) (cs : List ℕ) → length ts ≡ capacity → length ss ≡ capacity → eqb (length cs) 3 ≡ tapsPlaces ts ss cs

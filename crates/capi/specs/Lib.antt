@@ -1,3 +1,3 @@
--- The C interface. Layout: how records stand in lent slices. Calls: what each call returns, and what every slice holds after it.
-pub mod Layout
+-- The C interface. Kinds: how records stand in lent slices. Calls: what each call returns, and what every slice holds after it.
+pub mod Kinds
 pub mod Calls

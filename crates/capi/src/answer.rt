@@ -6,7 +6,8 @@ ghost use lib.Dec.{eqb};
 ghost use lib.ListN.{length};
 ghost use Rattle.runs.specs.Runs.{numberOf, isClouded};
 ghost use Rattle.runs.specs.View.{answerView};
-ghost use Rattle.capi.specs.Layout.{flag};
+ghost use Rattle.layout.specs.Layout.{flag};
+use layout::flag;
 use runs::Answer;
 
 // Whether both have one place.
@@ -17,13 +18,6 @@ pub(crate) fn single(answer: &[f64], clouded: &[usize]) -> bool
         return false;
     }
     clouded.len() == 1
-}
-
-// A flag as a number.
-pub(crate) fn flag(b: bool) -> usize
-    ensures { λ r. ⌜ r ≡ flag b ⌝ }
-{
-    if b { 1 } else { 0 }
 }
 
 // The number of an answer, and whether it is Clouded, each in its one place.

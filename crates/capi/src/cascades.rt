@@ -1,12 +1,12 @@
 // Steps, blocks and resets of a lent cascade.
 ghost use mathlib.Core.Path.{_≡_};
-ghost use Rattle.capi.specs.Layout.{cascadeKind};
+ghost use Rattle.capi.specs.Kinds.{cascadeKind};
 ghost use Rattle.capi.specs.Calls.{stepCall, blockCall, resetCall};
 use super::answer::put;
 use super::answer::single;
-use super::layout::fits;
-use super::layout::read;
-use super::layout::write;
+use layout::fits;
+use layout::read;
+use layout::write;
 
 // One sample x.
 #[no_mangle]

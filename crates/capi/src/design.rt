@@ -8,10 +8,6 @@ ghost use Rattle.designs.specs.LowPass.{butterworthLp, butterworthHp, chebyshev
 ghost use Rattle.designs.specs.BandPass.{butterworthBp};
 ghost use Rattle.designs.specs.View.{designView};
 ghost use Rattle.capi.specs.Calls.{designCall, tapsPlaces, madeCall, firCall, windowOf};
-use super::layout::COUNTS;
-use super::layout::has_places;
-use super::layout::put_counts;
-use super::layout::write;
 use designs::Design;
 use designs::design_butterworth_bp;
 use designs::design_butterworth_hp;
@@ -20,6 +16,10 @@ use designs::design_chebyshev1_lp;
 use designs::design_chebyshev2_lp;
 use fir::Made;
 use fir::TapRecord;
+use layout::COUNTS;
+use layout::has_places;
+use layout::put_counts;
+use layout::write;
 use windows::WindowType;
 use windows::design_fir_lp;
 

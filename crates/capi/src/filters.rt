@@ -1,10 +1,10 @@
 // Steps, blocks and resets of a lent tap record.
 ghost use mathlib.Core.Path.{_≡_};
-ghost use Rattle.capi.specs.Layout.{firKind};
+ghost use Rattle.capi.specs.Kinds.{firKind};
 ghost use Rattle.capi.specs.Calls.{stepCall, blockCall, resetCall};
 use super::answer::put;
 use super::answer::single;
-use super::layout::COUNTS;
+use layout::COUNTS;
 
 // One sample x.
 #[no_mangle]

@@ -5,4 +5,3 @@ mod answer;
 mod cascades;
 mod design;
 mod filters;
-mod layout;

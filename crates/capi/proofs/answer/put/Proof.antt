@@ -2,8 +2,8 @@
 use mathlib.Core.Path.{_∙_, ap}
 use mathlib.Core.List.{List, _∷_, []}
 use Prim.Native.Nat.{ℕ}
-use Rattle.capi.specs.Layout.{flag}
-use Rattle.capi.proofs.Places.{set-one}
+use Rattle.layout.specs.Layout.{flag}
+use Rattle.layout.proofs.Places.{set-one}
 use borrow.Author.Needs.{needs}
 use Rattle.capi.proofs.answer.put.Statement.{statement}
 use Rattle.capi.proofs.answer.put.Tie as tie

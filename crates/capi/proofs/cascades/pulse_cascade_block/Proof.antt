@@ -7,10 +7,12 @@ use borrow.Author.Tests.{not-true, not-false}
 use Rattle.runs.specs.Runs.{Block}
 use Rattle.runs.specs.Lent.{lentBlock}
 use Rattle.cascade.specs.View.{blockView}
-use Rattle.capi.specs.Layout.{cascadeFits, cascadeKind}
+use Rattle.layout.specs.Layout.{cascadeFits}
+use Rattle.capi.specs.Kinds.{cascadeKind}
 use Rattle.capi.specs.Calls.{fitting, recordOf}
-use Rattle.capi.proofs.Places.{set-one}
-use Rattle.capi.proofs.Laws.{fits-lengths, block-not-single, block-unfit, lend-block, block-refused, block-accepted}
+use Rattle.layout.proofs.Places.{set-one}
+use Rattle.layout.proofs.Laws.{fits-places}
+use Rattle.capi.proofs.Laws.{read-is, numbers-are, counts-are, block-not-single, block-unfit, lend-block, block-refused, block-accepted}
 use borrow.Author.Needs.{needs}
 use Rattle.capi.proofs.cascades.pulse_cascade_block.Statement.{statement}
 use Rattle.capi.proofs.cascades.pulse_cascade_block.Tie as tie
@@ -31,7 +33,7 @@ accepted : (r : tie.After-block) → let a = start (else1 (else2 r)) .args in
     blockView (r .block .result) (r .block .last .1 .1 .0)
     ≡ lentBlock (cascadeKind .filter) (fitting cascadeKind (a .numbers .now) (a .counts .now)) (recordOf cascadeKind (a .numbers .now) (a .counts .now)) (a .input .now) (a .output .now)
 accepted r = let a = start (else1 (else2 r)) .args in
-    lend-block cascadeKind (a .numbers .now) (a .counts .now) (fit (else2 r)) (r .before .before .read .ensures) (a .input .now) (a .output .now) (r .block .ensures)
+    lend-block cascadeKind (a .numbers .now) (a .counts .now) (fit (else2 r)) (read-is _ _ (fit (else2 r)) (r .before .before .read .ensures)) (a .input .now) (a .output .now) (r .block .ensures)
 
 returns : tie.Need-returns
 returns c = block-not-single cascadeKind _ _ _ _ _ (c .if1 .taken)
@@ -49,7 +51,7 @@ returns-2 : tie.Need-returns-2
 returns-2 c = block-unfit cascadeKind _ _ _ _ _ (c .before .before .before .before .if1 .left) (sym (c .before .fits2 .ensures) ∙ not-true _ (c .if2 .taken))
 
 read-requires : tie.Need-read-requires
-read-requires c κs = fits-lengths _ _ (fit (c .before .before))
+read-requires c κs = search needs
 
 block-requires : tie.Need-block-requires
 block-requires c κs = search needs
@@ -68,7 +70,7 @@ returns-3 c = let r = c .before .before .before in
     block-refused cascadeKind _ _ _ _ _ (else1 (else2 r) .if1 .left) (accepted r) (c .if3 .taken)
 
 write-requires : tie.Need-write-requires
-write-requires c κs = fits-lengths _ _ (fit (c .before .before .before .before .before .before .before .before .before .before))
+write-requires c κs = search needs
 
 slice-write-clouded : tie.Need-slice-write-clouded
 slice-write-clouded c = search needs
@@ -89,7 +91,8 @@ returns-4 : tie.Need-returns-4
 returns-4 c = let r = c .before .before .before .before .before .before .before .before .before .before in
     let e = else1 (else2 r) in
     let w = c .before .before .before .before .write .ensures in
-    block-accepted cascadeKind _ _ _ _ _ (e .if1 .left) (accepted r) (c .before .before .before .before .before .before .before .if3 .left) (w .0) (w .1) (set-one (start e .args .clouded .now) _ (e .if1 .left))
+    let t = fits-places _ _ (fit (else2 r)) in
+    block-accepted cascadeKind _ _ _ _ _ (e .if1 .left) (accepted r) (c .before .before .before .before .before .before .before .if3 .left) (numbers-are _ _ _ t (w .1)) (counts-are _ _ _ t (w .2)) (set-one (start e .args .clouded .now) _ (e .if1 .left))
 
 pub pulse-cascade-block-spec : {M : Type 1} → statement M
 pulse-cascade-block-spec =

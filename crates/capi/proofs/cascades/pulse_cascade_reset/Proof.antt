@@ -7,9 +7,11 @@ use borrow.Author.Tests.{not-true, not-false}
 use Rattle.runs.specs.Runs.{Reset}
 use Rattle.runs.specs.Lent.{lentReset}
 use Rattle.cascade.specs.View.{resetView}
-use Rattle.capi.specs.Layout.{cascadeFits, cascadeKind}
+use Rattle.layout.specs.Layout.{cascadeFits}
+use Rattle.capi.specs.Kinds.{cascadeKind}
 use Rattle.capi.specs.Calls.{fitting, recordOf}
-use Rattle.capi.proofs.Laws.{fits-lengths, reset-unfit, lend-reset, reset-refused, reset-accepted}
+use Rattle.layout.proofs.Laws.{fits-places}
+use Rattle.capi.proofs.Laws.{read-is, numbers-are, counts-are, reset-unfit, lend-reset, reset-refused, reset-accepted}
 use borrow.Author.Needs.{needs}
 use Rattle.capi.proofs.cascades.pulse_cascade_reset.Statement.{statement}
 use Rattle.capi.proofs.cascades.pulse_cascade_reset.Tie as tie
@@ -26,7 +28,7 @@ else1 r = r .before .before .before .before
 accepted : (r : tie.After-reset) → let a = start (else1 r) .args in
     resetView (r .reset .result) ≡ lentReset (cascadeKind .filter) (fitting cascadeKind (a .numbers .now) (a .counts .now)) (recordOf cascadeKind (a .numbers .now) (a .counts .now))
 accepted r = let a = start (else1 r) .args in
-    lend-reset cascadeKind (a .numbers .now) (a .counts .now) (fit (else1 r)) (r .before .read .ensures) (r .reset .ensures)
+    lend-reset cascadeKind (a .numbers .now) (a .counts .now) (fit (else1 r)) (read-is _ _ (fit (else1 r)) (r .before .read .ensures)) (r .reset .ensures)
 
 fits-requires : tie.Need-fits-requires
 fits-requires c κs = search needs
@@ -41,7 +43,7 @@ returns : tie.Need-returns
 returns c = reset-unfit cascadeKind _ _ (sym (c .before .fits2 .ensures) ∙ not-true _ (c .if1 .taken))
 
 read-requires : tie.Need-read-requires
-read-requires c κs = fits-lengths _ _ (fit (c .before .before))
+read-requires c κs = search needs
 
 reset-requires : tie.Need-reset-requires
 reset-requires c κs = search needs
@@ -56,7 +58,7 @@ returns-2 : tie.Need-returns-2
 returns-2 c = reset-refused cascadeKind _ _ (accepted (c .before)) (c .if2 .taken)
 
 write-requires : tie.Need-write-requires
-write-requires c κs = fits-lengths _ _ (fit (c .before .before .before .before .before .before .before))
+write-requires c κs = search needs
 
 same-length-5 : tie.Need-same-length-5
 same-length-5 c = search needs
@@ -66,7 +68,9 @@ same-length-6 c = search needs
 
 returns-3 : tie.Need-returns-3
 returns-3 c = let w = c .before .before .before .before .write .ensures in
-    reset-accepted cascadeKind _ _ (accepted (c .before .before .before .before .before .before .before .before)) (c .before .before .before .before .before .before .before .if2 .left) (w .0) (w .1)
+    let r = c .before .before .before .before .before .before .before .before in
+    let t = fits-places _ _ (fit (else1 r)) in
+    reset-accepted cascadeKind _ _ (accepted r) (c .before .before .before .before .before .before .before .if2 .left) (numbers-are _ _ _ t (w .1)) (counts-are _ _ _ t (w .2))
 
 pub pulse-cascade-reset-spec : {M : Type 1} → statement M
 pulse-cascade-reset-spec =

@@ -9,9 +9,11 @@ use Rattle.runs.specs.Lent.{lentStep}
 use Rattle.runs.specs.View.{answerView}
 use Rattle.cascade.specs.Cascade.{CascadeRecord}
 use Rattle.cascade.specs.View.{cascadeView, updatedView}
-use Rattle.capi.specs.Layout.{cascadeFits, cascadeKind}
+use Rattle.layout.specs.Layout.{cascadeFits}
+use Rattle.capi.specs.Kinds.{cascadeKind}
 use Rattle.capi.specs.Calls.{fitting, recordOf}
-use Rattle.capi.proofs.Laws.{fits-lengths, single-lengths, step-not-single, step-unfit, lend-step, step-refused, step-accepted}
+use Rattle.layout.proofs.Laws.{fits-places}
+use Rattle.capi.proofs.Laws.{read-is, numbers-are, counts-are, single-lengths, step-not-single, step-unfit, lend-step, step-refused, step-accepted}
 use borrow.Author.Needs.{needs}
 use Rattle.capi.proofs.cascades.pulse_cascade_step.Statement.{statement}
 use Rattle.capi.proofs.cascades.pulse_cascade_step.Tie as tie
@@ -34,7 +36,7 @@ else2 r = r .before .before .before .before .before
 accepted : (r : tie.After-refusal-of) → let a = start (else1 (else2 r)) .args in
     updatedView (r .before .update .result) ≡ lentStep (cascadeKind .filter) (fitting cascadeKind (a .numbers .now) (a .counts .now)) (recordOf cascadeKind (a .numbers .now) (a .counts .now)) (a .x)
 accepted r = let a = start (else1 (else2 r)) .args in
-    lend-step cascadeKind (a .numbers .now) (a .counts .now) (fit (else2 r)) (r .before .before .read .ensures) (a .x) (r .before .update .ensures)
+    lend-step cascadeKind (a .numbers .now) (a .counts .now) (fit (else2 r)) (read-is _ _ (fit (else2 r)) (r .before .before .read .ensures)) (a .x) (r .before .update .ensures)
 
 single-requires : tie.Need-single-requires
 single-requires c κs = search needs
@@ -67,7 +69,7 @@ returns-2 : tie.Need-returns-2
 returns-2 c = step-unfit cascadeKind _ _ _ _ _ (one (c .before .before .before .before)) (sym (c .before .fits2 .ensures) ∙ not-true _ (c .if2 .taken))
 
 read-requires : tie.Need-read-requires
-read-requires c κs = fits-lengths _ _ (fit (c .before .before))
+read-requires c κs = search needs
 
 update-requires : tie.Need-update-requires
 update-requires c κs = search needs
@@ -92,7 +94,7 @@ returns-3 c = let r = c .before in
     step-refused cascadeKind _ _ _ _ _ (one (else1 (else2 r))) (accepted r) (r .refusal-of .ensures) (c .if3 .taken)
 
 write-requires : tie.Need-write-requires
-write-requires c κs = fits-lengths _ _ (fit (else2 (c .before .before .before)))
+write-requires c κs = search needs
 
 put-requires : tie.Need-put-requires
 put-requires c κs = let e = c .before .before .before .before .before .before .before .before .before .before .before .before .before .before .before .before .before .before .before in single-lengths (start e .args .answer .now) (start e .args .clouded .now) (one e)
@@ -112,8 +114,9 @@ same-length-14 c = search needs
 returns-4 : tie.Need-returns-4
 returns-4 c = let r = c .before .before .before .before .before .before .before .before .before .before .before .before .before .before .before in
     let w = c .before .before .before .before .before .before .before .before .before .before .before .write .ensures in
+    let t = fits-places _ _ (fit (else2 r)) in
     let p = c .before .before .before .before .put .ensures in
-    step-accepted cascadeKind _ _ _ _ _ (one (else1 (else2 r))) (accepted r) (r .refusal-of .ensures) (c .before .before .before .before .before .before .before .before .before .before .before .before .before .before .if3 .left) (w .0) (w .1) (p .0) (p .1)
+    step-accepted cascadeKind _ _ _ _ _ (one (else1 (else2 r))) (accepted r) (r .refusal-of .ensures) (c .before .before .before .before .before .before .before .before .before .before .before .before .before .before .if3 .left) (numbers-are _ _ _ t (w .1)) (counts-are _ _ _ t (w .2)) (p .0) (p .1)
 
 pub pulse-cascade-step-spec : {M : Type 1} → statement M
 pulse-cascade-step-spec =

@@ -3,8 +3,8 @@ use mathlib.Core.Path.{_≡_, sym, _∙_}
 use mathlib.Core.Bool.{true}
 use borrow.Author.Tests.{not-true, not-false}
 use Rattle.designs.specs.View.{designView}
-use Rattle.capi.specs.Layout.{cascadePlaces}
-use Rattle.capi.proofs.Laws.{places-lengths, design-unfit, design-refused, design-accepted}
+use Rattle.layout.specs.Layout.{cascadePlaces}
+use Rattle.capi.proofs.Laws.{numbers-are, counts-are, design-unfit, design-refused, design-accepted}
 use borrow.Author.Needs.{needs}
 use Rattle.capi.proofs.design.hand_out.Statement.{statement}
 use Rattle.capi.proofs.design.hand_out.Tie as tie
@@ -34,7 +34,7 @@ returns-2 : tie.Need-returns-2
 returns-2 c = design-refused (designView (c .before .before .before .before .before .before .before .args .d)) _ _ (places (c .before)) (c .if2 .taken)
 
 write-requires : tie.Need-write-requires
-write-requires c κs = places-lengths _ _ (places (c .before .before .before))
+write-requires c κs = search needs
 
 same-length-5 : tie.Need-same-length-5
 same-length-5 c = search needs
@@ -44,7 +44,8 @@ same-length-6 c = search needs
 
 returns-3 : tie.Need-returns-3
 returns-3 c = let w = c .before .before .before .before .write .ensures in
-    design-accepted (designView (c .before .before .before .before .before .before .before .before .before .before .before .before .before .before .args .d)) _ _ (places (c .before .before .before .before .before .before .before .before)) (c .before .before .before .before .before .before .before .if2 .left) (w .0) (w .1)
+    let t = places (c .before .before .before .before .before .before .before .before) in
+    design-accepted (designView (c .before .before .before .before .before .before .before .before .before .before .before .before .before .before .args .d)) _ _ t (c .before .before .before .before .before .before .before .if2 .left) (numbers-are _ _ _ t (w .1)) (counts-are _ _ _ t (w .2))
 
 pub hand-out-spec : {M : Type 1} → statement M
 hand-out-spec =

@@ -1,11 +1,14 @@
 -- `capi::design::hand_out_taps` meets its contract. Assumes nothing.
 use mathlib.Core.Path.{_≡_, sym, _∙_}
 use mathlib.Core.Bool.{true}
-use borrow.Author.Tests.{not-true, not-false}
+use mathlib.Core.List.{_∷_, []}
+use lib.Dec.{eqb}
+use borrow.Author.Tests.{not-true, not-false, eq-eqb}
+use Rattle.layout.proofs.Laws.{cond-true}
 use lib.ListN.{length}
 use Rattle.taps.specs.Lent.{capacity}
 use Rattle.fir.specs.View.{madeView}
-use Rattle.capi.specs.Layout.{tapsCounts}
+use Rattle.capi.specs.Kinds.{tapsCounts}
 use Rattle.capi.specs.Calls.{tapsPlaces}
 use Rattle.capi.proofs.Laws.{taps-lengths, made-unfit, made-refused, made-accepted}
 use borrow.Author.Needs.{needs}
@@ -64,7 +67,7 @@ cast-put-counts : tie.Need-cast-put-counts
 cast-put-counts c = search needs
 
 put-counts-requires : tie.Need-put-counts-requires
-put-counts-requires c κs = taps-lengths _ _ _ (places (c .before .before .before .before .before .before .before .before .before .before .before .before .before .before .before)) .2
+put-counts-requires c κs = search needs
 
 same-length-7 : tie.Need-same-length-7
 same-length-7 c = search needs
@@ -77,7 +80,12 @@ same-length-9 c = search needs
 
 returns-3 : tie.Need-returns-3
 unfolding tapsCounts
-returns-3 c = made-accepted (madeView (c .before .before .before .before .before .before .before .before .before .before .before .before .before .before .before .before .before .before .before .before .before .before .before .before .before .before .args .m)) _ _ _ (places (c .before .before .before .before .before .before .before .before .before .before .before .before .before .before .before .before .before .before)) (c .before .before .before .before .before .before .before .before .before .before .before .before .before .before .before .before .before .if2 .left) (c .before .before .before .before .before .before .before .before .before .before .before .copy .ensures) (c .before .before .before .before .before .before .copy2 .ensures) (c .before .before .put-counts .ensures)
+returns-3 c = let e = c .before .before .before .before .before .before .before .before .before .before .before .before .before .before .before .before .before .before in
+    let f = c .before .before .before .before .before .before .before .before .before .before .before .before .before .before .before .before .before .before .before .before .before .before .before .before .before .before .args .m .filter in
+    let cs = e .before .before .before .before .before .before .before .before .args .counts .now in
+    let three = eq-eqb (length cs) 3 (taps-lengths _ _ _ (places e) .2) in
+    made-accepted (madeView (c .before .before .before .before .before .before .before .before .before .before .before .before .before .before .before .before .before .before .before .before .before .before .before .before .before .before .args .m)) _ _ _ (places e) (c .before .before .before .before .before .before .before .before .before .before .before .before .before .before .before .before .before .if2 .left) (c .before .before .before .before .before .before .before .before .before .before .before .copy .ensures) (c .before .before .before .before .before .before .copy2 .ensures)
+    (c .before .before .put-counts .ensures .1 ∙ cond-true (eqb (length cs) 3) (f .length ∷ f .held ∷ f .window ∷ []) cs three)
 
 pub hand-out-taps-spec : {M : Type 1} → statement M
 hand-out-taps-spec =

@@ -1,10 +1,10 @@
--- `capi::layout::put_section` meets its contract. Assumes nothing.
+-- `layout::put_section` meets its contract. Assumes nothing.
 use native.Mathlib.Omega.{arith}
 use lib.ListN.{length-set}
-use Rattle.capi.proofs.Places.{set-seven}
+use Rattle.layout.proofs.Places.{set-seven}
 use borrow.Author.Needs.{needs}
-use Rattle.capi.proofs.layout.put_section.Statement.{statement}
-use Rattle.capi.proofs.layout.put_section.Tie as tie
+use Rattle.layout.proofs.put_section.Statement.{statement}
+use Rattle.layout.proofs.put_section.Tie as tie
 
 mul-numbers : tie.Need-mul-numbers
 mul-numbers c = search needs

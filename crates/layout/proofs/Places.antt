@@ -14,7 +14,7 @@ use Rattle.convolution.specs.Convolution.{placed}
 use Rattle.convolution.proofs.Sums.{put-start, put-turn, put-done, placed-length, placed-more}
 use Rattle.sections.specs.View.{sectionView}
 use Rattle.sections.specs.declared.section.Section.{Section}
-use Rattle.capi.specs.Layout.{sectionNumbers, sectionsNumbers}
+use Rattle.layout.specs.Layout.{sectionNumbers, sectionsNumbers}
 
 pub both : (a b : Bool) → (a && b) ≡ true → (a ≡ true) × (b ≡ true)
 both true b h = (refl, h)

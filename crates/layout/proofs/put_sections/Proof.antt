@@ -1,11 +1,11 @@
--- `capi::layout::put_sections` meets its contract. Assumes nothing.
+-- `layout::put_sections` meets its contract. Assumes nothing.
 use native.Mathlib.Omega.{arith}
 use lib.ListN.{length}
 use mathlib.Core.Path.{_≡_}
-use Rattle.capi.proofs.Places.{sections-written}
+use Rattle.layout.proofs.Places.{sections-written}
 use borrow.Author.Needs.{needs}
-use Rattle.capi.proofs.layout.put_sections.Statement.{statement}
-use Rattle.capi.proofs.layout.put_sections.Tie as tie
+use Rattle.layout.proofs.put_sections.Statement.{statement}
+use Rattle.layout.proofs.put_sections.Tie as tie
 
 array-copy-out-put-section : tie.Need-array-copy-out-put-section
 array-copy-out-put-section c = search needs

@@ -1,8 +1,8 @@
--- `capi::layout::put_counts` meets its contract. Assumes nothing.
-use Rattle.capi.proofs.Places.{set-three}
+-- `layout::set_counts` meets its contract. Assumes nothing.
+use Rattle.layout.proofs.Places.{set-three}
 use borrow.Author.Needs.{needs}
-use Rattle.capi.proofs.layout.put_counts.Statement.{statement}
-use Rattle.capi.proofs.layout.put_counts.Tie as tie
+use Rattle.layout.proofs.set_counts.Statement.{statement}
+use Rattle.layout.proofs.set_counts.Tie as tie
 
 slice-write-counts : tie.Need-slice-write-counts
 slice-write-counts c = search needs
@@ -19,7 +19,7 @@ same-length c = search needs
 returns : tie.Need-returns
 returns c = set-three (c .args .counts .now) _ _ _ (c .pre)
 
-pub put-counts-spec : {M : Type 1} → statement M
-put-counts-spec =
+pub set-counts-spec : {M : Type 1} → statement M
+set-counts-spec =
     tie.close
     (tie.spec slice-write-counts slice-write-counts-2 slice-write-counts-3 same-length returns)

@@ -1,14 +1,14 @@
--- `capi::layout::fits` meets its contract. Assumes nothing.
+-- `layout::fits` meets its contract. Assumes nothing.
 use mathlib.Core.Path.{_≡_, sym, _∙_}
 use mathlib.Core.Bool.{true}
 use native.Mathlib.Omega.{arith}
 use lib.ListN.{length}
 use borrow.Author.Tests.{not-true, not-false, lt-leb, le-leb}
-use Rattle.capi.specs.Layout.{cascadePlaces, cascadeFits}
-use Rattle.capi.proofs.Laws.{places-lengths, fits-flagged, fits-last}
+use Rattle.layout.specs.Layout.{cascadePlaces, cascadeFits}
+use Rattle.layout.proofs.Laws.{places-lengths, fits-flagged, fits-last}
 use borrow.Author.Needs.{needs}
-use Rattle.capi.proofs.layout.fits.Statement.{statement}
-use Rattle.capi.proofs.layout.fits.Tie as tie
+use Rattle.layout.proofs.fits.Statement.{statement}
+use Rattle.layout.proofs.fits.Tie as tie
 
 has-places-requires : tie.Need-has-places-requires
 has-places-requires c κs = search needs

@@ -1,8 +1,8 @@
--- `capi::layout::has_places` meets its contract. Assumes nothing.
+-- `layout::has_places` meets its contract. Assumes nothing.
 use borrow.Author.Tests.{eq-eqb, ne-eqb}
-use Rattle.capi.specs.Layout.{cascadePlaces}
-use Rattle.capi.proofs.layout.has_places.Statement.{statement}
-use Rattle.capi.proofs.layout.has_places.Tie as tie
+use Rattle.layout.specs.Layout.{cascadePlaces}
+use Rattle.layout.proofs.has_places.Statement.{statement}
+use Rattle.layout.proofs.has_places.Tie as tie
 
 returns : tie.Need-returns
 unfolding cascadePlaces

@@ -1,9 +1,9 @@
--- `capi::layout::put_first` meets its contract. Assumes nothing.
+-- `layout::put_first` meets its contract. Assumes nothing.
 use native.Mathlib.Omega.{arith}
-use Rattle.capi.proofs.Places.{set-four}
+use Rattle.layout.proofs.Places.{set-four}
 use borrow.Author.Needs.{needs}
-use Rattle.capi.proofs.layout.put_first.Statement.{statement}
-use Rattle.capi.proofs.layout.put_first.Tie as tie
+use Rattle.layout.proofs.put_first.Statement.{statement}
+use Rattle.layout.proofs.put_first.Tie as tie
 
 slice-write-numbers : tie.Need-slice-write-numbers
 slice-write-numbers c = search needs

@@ -1,18 +1,13 @@
--- How a cascade and a tap record stand in slices of numbers that a caller lends. Definitions only.
+-- How a cascade stands in slices that a caller lends: 32 numbers and 3 counts. Definitions only.
 use Prim.Native.Nat.{ℕ, _+_}
 use mathlib.Core.Bool.{Bool, _&&_, cond}
 use mathlib.Core.List.{List, [], _∷_, _++_}
 use lib.Dec.{eqb, leb}
 use lib.ListN.{length, getD}
-use lib.Ieee.{Float, nan, binary64}
-use Rattle.runs.specs.Runs.{Filter}
+use lib.Ieee.{Float, nan}
 use Rattle.sections.specs.Section.{Biquad}
 use Rattle.sections.specs.FirstOrder.{FirstPart}
-use Rattle.cascade.specs.Cascade.{CascadeRecord, cascade}
-use Rattle.taps.specs.Fir.{TapsRecord, fir}
-use Rattle.taps.specs.Lent.{capacity, lentTaps, fits}
-
--- ---- a cascade: 32 numbers and 3 counts
+use Rattle.cascade.specs.Cascade.{CascadeRecord}
 
 -- a section's seven numbers, from place k on
 abbrev pub sectionAt : List Float → ℕ → Biquad
@@ -66,29 +61,3 @@ cascadePlaces numbers counts = eqb (length numbers) 32 && eqb (length counts) 3
 
 unfoldable pub cascadeFits : List Float → List ℕ → Bool
 cascadeFits numbers counts = cascadePlaces numbers counts && (leb (getD counts 1 0) 1 && leb (getD counts 2 0) 1)
-
--- ---- a tap record: taps, samples and 3 counts, which are the length, the held count and the window code
-
-unfoldable pub tapsAt : List Float → List Float → List ℕ → TapsRecord
-tapsAt taps samples counts = lentTaps taps samples (getD counts 0 0) (getD counts 1 0) (getD counts 2 0)
-
-unfoldable pub tapsCounts : TapsRecord → List ℕ
-tapsCounts r = r .size ∷ r .held ∷ r .window ∷ []
-
-unfoldable pub tapsFit : List Float → List Float → List ℕ → Bool
-tapsFit taps samples counts = eqb (length counts) 3 && fits capacity (tapsAt taps samples counts)
-
--- ---- either kind: its filter, and how a record stands in the two slices that a call may change
-pub record Kind : Type 1 where
-  pub filter : Filter
-  pub fit : List Float → List ℕ → Bool
-  pub read : List Float → List ℕ → filter .State
-  pub numbers : filter .State → List Float
-  pub counts : filter .State → List ℕ
-
-abbrev pub cascadeKind : Kind
-cascadeKind = record { filter = cascade binary64; fit = cascadeFits; read = cascadeAt; numbers = cascadeNumbers; counts = cascadeCounts }
-
--- with these taps, which no call changes
-abbrev pub firKind : List Float → Kind
-firKind taps = record { filter = fir capacity binary64; fit = tapsFit taps; read = tapsAt taps; numbers = λ r. r .samples; counts = tapsCounts }

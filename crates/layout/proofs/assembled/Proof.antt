@@ -1,8 +1,8 @@
--- `capi::layout::read` meets its contract. Assumes nothing.
-use Rattle.capi.specs.Layout.{cascadeAt}
+-- `layout::assembled` meets its contract. Assumes nothing.
+use Rattle.layout.specs.Layout.{cascadeAt}
 use borrow.Author.Needs.{needs}
-use Rattle.capi.proofs.layout.read.Statement.{statement}
-use Rattle.capi.proofs.layout.read.Tie as tie
+use Rattle.layout.proofs.assembled.Statement.{statement}
+use Rattle.layout.proofs.assembled.Tie as tie
 
 section-at-requires : tie.Need-section-at-requires
 section-at-requires c κs = search needs
@@ -32,8 +32,8 @@ returns : tie.Need-returns
 unfolding cascadeAt
 returns c = rw (← c .before .before .before .before .before .before .before .section-at .ensures, ← c .before .before .before .before .before .before .section-at2 .ensures, ← c .before .before .before .before .before .section-at3 .ensures, ← c .before .before .before .before .section-at4 .ensures, ← c .before .before .before .first-at .ensures)
 
-pub read-spec : {M : Type 1} → statement M
-read-spec =
+pub assembled-spec : {M : Type 1} → statement M
+assembled-spec =
     tie.close
     (tie.spec
     section-at-requires

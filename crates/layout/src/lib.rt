@@ -1,13 +1,15 @@
-// How a cascade stands in slices: 32 numbers and 3 counts.
+// How a cascade stands in slices that a caller lends: 32 numbers and 3 counts (include/pulse.h).
 ghost use mathlib.Core.Path.{_≡_};
+ghost use mathlib.Core.Bool.{cond};
 ghost use mathlib.Core.List.{[], _∷_, _++_, map};
 ghost use Prim.Native.Nat.{_≤_};
+ghost use lib.Dec.{eqb};
 ghost use lib.ListN.{length, drop};
 ghost use Rattle.convolution.specs.Convolution.{placed};
 ghost use Rattle.sections.specs.View.{sectionView, firstView};
+ghost use Rattle.cascade.specs.Cascade.{blankCascade};
 ghost use Rattle.cascade.specs.View.{cascadeView};
-ghost use Rattle.capi.specs.Layout.{sectionAt, firstAt, cascadeAt, sectionNumbers, sectionsNumbers, firstNumbers, cascadeNumbers, cascadeCounts, cascadePlaces, cascadeFits};
-use super::answer::flag;
+ghost use Rattle.layout.specs.Layout.{sectionAt, firstAt, cascadeAt, sectionNumbers, sectionsNumbers, firstNumbers, cascadeNumbers, cascadeCounts, cascadePlaces, cascadeFits, flag};
 use cascade::Cascade;
 use sections::FirstOrder;
 use sections::Section;
@@ -16,10 +18,17 @@ use sections::Section;
 const NUMBERS: usize = 32;
 
 // How many counts either kind of record has.
-pub(crate) const COUNTS: usize = 3;
+pub const COUNTS: usize = 3;
+
+// A flag as a number.
+pub fn flag(b: bool) -> usize
+    ensures { λ r. ⌜ r ≡ flag b ⌝ }
+{
+    if b { 1 } else { 0 }
+}
 
 // Whether slices have the places of a cascade.
-pub(crate) fn has_places(numbers: &[f64], counts: &[usize]) -> bool
+pub fn has_places(numbers: &[f64], counts: &[usize]) -> bool
     ensures { λ r. ⌜ r ≡ cascadePlaces (now (numbers .entry)) (now (counts .entry)) ⌝ }
 {
     if numbers.len() != NUMBERS {
@@ -29,7 +38,7 @@ pub(crate) fn has_places(numbers: &[f64], counts: &[usize]) -> bool
 }
 
 // Whether slices can be a cascade: they have its places, and each flag is 0 or 1.
-pub(crate) fn fits(numbers: &[f64], counts: &[usize]) -> bool
+pub fn fits(numbers: &[f64], counts: &[usize]) -> bool
     ensures { λ r. ⌜ r ≡ cascadeFits (now (numbers .entry)) (now (counts .entry)) ⌝ }
 {
     if !has_places(numbers, counts) {
@@ -70,8 +79,8 @@ fn first_at(numbers: &[f64]) -> FirstOrder
     }
 }
 
-// The cascade that slices hold.
-pub(crate) fn read(numbers: &[f64], counts: &[usize]) -> Cascade
+// The cascade that slices with its places hold.
+fn assembled(numbers: &[f64], counts: &[usize]) -> Cascade
     requires { ⌜ (length (now numbers) ≡ 32) × (length (now counts) ≡ 3) ⌝ }
     ensures { λ r. ⌜ cascadeView r ≡ cascadeAt (now (numbers .entry)) (now (counts .entry)) ⌝ }
 {
@@ -125,8 +134,8 @@ fn put_first(p: FirstOrder, numbers: &mut [f64])
     numbers[31] = p.w;
 }
 
-// Three counts.
-pub(crate) fn put_counts(counts: &mut [usize], n0: usize, n1: usize, n2: usize)
+// Three counts into slices of three places.
+fn set_counts(counts: &mut [usize], n0: usize, n1: usize, n2: usize)
     requires { ⌜ length (now counts) ≡ 3 ⌝ }
     ensures { λ _. ⌜ now (counts .exit) ≡ n0 ∷ n1 ∷ n2 ∷ [] ⌝ }
 {
@@ -136,7 +145,7 @@ pub(crate) fn put_counts(counts: &mut [usize], n0: usize, n1: usize, n2: usize)
 }
 
 // A cascade into slices that have its places.
-pub(crate) fn write(c: Cascade, numbers: &mut [f64], counts: &mut [usize])
+fn put_cascade(c: Cascade, numbers: &mut [f64], counts: &mut [usize])
     requires { ⌜ (length (now numbers) ≡ 32) × (length (now counts) ≡ 3) ⌝ }
     ensures { λ _. ⌜ (now (numbers .exit) ≡ cascadeNumbers (cascadeView c)) × (now (counts .exit) ≡ cascadeCounts (cascadeView c)) ⌝ }
 {
@@ -144,5 +153,39 @@ pub(crate) fn write(c: Cascade, numbers: &mut [f64], counts: &mut [usize])
     put_sections(sections, numbers);
     let first = c.first;
     put_first(first, numbers);
-    put_counts(counts, c.count, flag(c.has_first), flag(c.clouded));
+    set_counts(counts, c.count, flag(c.has_first), flag(c.clouded));
+}
+
+// The cascade that slices hold; the blank one where they do not have its places.
+pub fn read(numbers: &[f64], counts: &[usize]) -> Cascade
+    ensures { λ r. ⌜ cascadeView r ≡ cond (cascadePlaces (now (numbers .entry)) (now (counts .entry))) (cascadeAt (now (numbers .entry)) (now (counts .entry))) blankCascade ⌝ }
+{
+    if !has_places(numbers, counts) {
+        return Cascade::blank();
+    }
+    assembled(numbers, counts)
+}
+
+// Three counts, and true; or false and the slice as it was, where it does not have three places.
+pub fn put_counts(counts: &mut [usize], n0: usize, n1: usize, n2: usize) -> bool
+    ensures { λ r. ⌜ (r ≡ eqb (length (now (counts .entry))) 3) × (now (counts .exit) ≡ cond (eqb (length (now (counts .entry))) 3) (n0 ∷ n1 ∷ n2 ∷ []) (now (counts .entry))) ⌝ }
+{
+    if counts.len() != COUNTS {
+        return false;
+    }
+    set_counts(counts, n0, n1, n2);
+    true
+}
+
+// A cascade into slices, and true; or false and the slices as they were, where they do not have its places.
+pub fn write(c: Cascade, numbers: &mut [f64], counts: &mut [usize]) -> bool
+    ensures { λ r. ⌜ (r ≡ cascadePlaces (now (numbers .entry)) (now (counts .entry)))
+        × (now (numbers .exit) ≡ cond (cascadePlaces (now (numbers .entry)) (now (counts .entry))) (cascadeNumbers (cascadeView c)) (now (numbers .entry)))
+        × (now (counts .exit) ≡ cond (cascadePlaces (now (numbers .entry)) (now (counts .entry))) (cascadeCounts (cascadeView c)) (now (counts .entry))) ⌝ }
+{
+    if !has_places(numbers, counts) {
+        return false;
+    }
+    put_cascade(c, numbers, counts);
+    true
 }

@@ -1,0 +1,38 @@
+-- `layout::read` meets its contract. Assumes nothing.
+use mathlib.Core.Path.{_≡_, sym, _∙_}
+use mathlib.Core.Bool.{true}
+use borrow.Author.Tests.{not-true, not-false}
+use Rattle.cascade.specs.Cascade.{blankCascade}
+use Rattle.layout.specs.Layout.{cascadePlaces, cascadeAt}
+use Rattle.layout.proofs.Laws.{places-lengths, cond-true, cond-false}
+use borrow.Author.Needs.{needs}
+use Rattle.layout.proofs.read.Statement.{statement}
+use Rattle.layout.proofs.read.Tie as tie
+
+places : (e : tie.Else1) → cascadePlaces (e .before .before .before .before .args .numbers .now) (e .before .before .before .before .args .counts .now) ≡ true
+places e = sym (e .before .has-places .ensures) ∙ not-false _ (e .if1 .left)
+
+has-places-requires : tie.Need-has-places-requires
+has-places-requires c κs = search needs
+
+blank-requires : tie.Need-blank-requires
+blank-requires c κs = search needs
+
+returns : tie.Need-returns
+returns c = let a = c .before .before .before .before .before .args in
+    let ns = a .numbers .now in
+    let cs = a .counts .now in
+    c .blank .ensures ∙ sym (cond-false (cascadePlaces ns cs) (cascadeAt ns cs) blankCascade (sym (c .before .before .has-places .ensures) ∙ not-true _ (c .before .if1 .taken)))
+
+assembled-requires : tie.Need-assembled-requires
+assembled-requires c κs = places-lengths _ _ (places c)
+
+returns-2 : tie.Need-returns-2
+returns-2 c = let a = c .before .before .before .before .before .args in
+    let ns = a .numbers .now in
+    let cs = a .counts .now in
+    c .assembled .ensures ∙ sym (cond-true (cascadePlaces ns cs) (cascadeAt ns cs) blankCascade (places (c .before)))
+
+pub read-spec : {M : Type 1} → statement M
+read-spec =
+    tie.close (tie.spec has-places-requires blank-requires returns assembled-requires returns-2)

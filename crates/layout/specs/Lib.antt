@@ -1,0 +1,2 @@
+-- How a cascade stands in slices of numbers.
+pub mod Layout
