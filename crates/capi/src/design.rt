@@ -7,7 +7,7 @@ ghost use Rattle.fir.specs.View.{madeView};
 ghost use Rattle.designs.specs.LowPass.{butterworthLp, butterworthHp, chebyshev1Lp, chebyshev2Lp};
 ghost use Rattle.designs.specs.BandPass.{butterworthBp};
 ghost use Rattle.designs.specs.View.{designView};
-ghost use Rattle.capi.specs.Calls.{designCall, tapsPlaces, madeCall, firCall, windowOf};
+ghost use Rattle.calls.specs.Calls.{designCall, tapsPlaces, madeCall, firCall, windowOf};
 use designs::Design;
 use designs::design_butterworth_bp;
 use designs::design_butterworth_hp;

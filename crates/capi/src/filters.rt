@@ -1,7 +1,7 @@
 // Steps, blocks and resets of a lent tap record.
 ghost use mathlib.Core.Path.{_≡_};
-ghost use Rattle.capi.specs.Kinds.{firKind};
-ghost use Rattle.capi.specs.Calls.{stepCall, blockCall, resetCall};
+ghost use Rattle.calls.specs.Kinds.{firKind};
+ghost use Rattle.calls.specs.Calls.{stepCall, blockCall, resetCall};
 use super::answer::put;
 use super::answer::single;
 use layout::COUNTS;

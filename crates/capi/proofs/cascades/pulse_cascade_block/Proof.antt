@@ -8,11 +8,11 @@ use Rattle.runs.specs.Runs.{Block}
 use Rattle.runs.specs.Lent.{lentBlock}
 use Rattle.cascade.specs.View.{blockView}
 use Rattle.layout.specs.Layout.{cascadeFits}
-use Rattle.capi.specs.Kinds.{cascadeKind}
-use Rattle.capi.specs.Calls.{fitting, recordOf}
+use Rattle.calls.specs.Kinds.{cascadeKind}
+use Rattle.calls.specs.Calls.{fitting, recordOf}
 use Rattle.layout.proofs.Places.{set-one}
 use Rattle.layout.proofs.Laws.{fits-places}
-use Rattle.capi.proofs.Laws.{read-is, numbers-are, counts-are, block-not-single, block-unfit, lend-block, block-refused, block-accepted}
+use Rattle.calls.proofs.Laws.{read-is, numbers-are, counts-are, block-not-single, block-unfit, lend-block, block-refused, block-accepted}
 use borrow.Author.Needs.{needs}
 use Rattle.capi.proofs.cascades.pulse_cascade_block.Statement.{statement}
 use Rattle.capi.proofs.cascades.pulse_cascade_block.Tie as tie

@@ -8,10 +8,10 @@ use Rattle.runs.specs.Runs.{Reset}
 use Rattle.runs.specs.Lent.{lentReset}
 use Rattle.cascade.specs.View.{resetView}
 use Rattle.layout.specs.Layout.{cascadeFits}
-use Rattle.capi.specs.Kinds.{cascadeKind}
-use Rattle.capi.specs.Calls.{fitting, recordOf}
+use Rattle.calls.specs.Kinds.{cascadeKind}
+use Rattle.calls.specs.Calls.{fitting, recordOf}
 use Rattle.layout.proofs.Laws.{fits-places}
-use Rattle.capi.proofs.Laws.{read-is, numbers-are, counts-are, reset-unfit, lend-reset, reset-refused, reset-accepted}
+use Rattle.calls.proofs.Laws.{read-is, numbers-are, counts-are, reset-unfit, lend-reset, reset-refused, reset-accepted}
 use borrow.Author.Needs.{needs}
 use Rattle.capi.proofs.cascades.pulse_cascade_reset.Statement.{statement}
 use Rattle.capi.proofs.cascades.pulse_cascade_reset.Tie as tie

@@ -10,10 +10,10 @@ use Rattle.runs.specs.View.{answerView}
 use Rattle.cascade.specs.Cascade.{CascadeRecord}
 use Rattle.cascade.specs.View.{cascadeView, updatedView}
 use Rattle.layout.specs.Layout.{cascadeFits}
-use Rattle.capi.specs.Kinds.{cascadeKind}
-use Rattle.capi.specs.Calls.{fitting, recordOf}
+use Rattle.calls.specs.Kinds.{cascadeKind}
+use Rattle.calls.specs.Calls.{fitting, recordOf}
 use Rattle.layout.proofs.Laws.{fits-places}
-use Rattle.capi.proofs.Laws.{read-is, numbers-are, counts-are, single-lengths, step-not-single, step-unfit, lend-step, step-refused, step-accepted}
+use Rattle.calls.proofs.Laws.{read-is, numbers-are, counts-are, single-lengths, step-not-single, step-unfit, lend-step, step-refused, step-accepted}
 use borrow.Author.Needs.{needs}
 use Rattle.capi.proofs.cascades.pulse_cascade_step.Statement.{statement}
 use Rattle.capi.proofs.cascades.pulse_cascade_step.Tie as tie

@@ -4,7 +4,7 @@ use mathlib.Core.Bool.{true}
 use borrow.Author.Tests.{not-true, not-false}
 use Rattle.designs.specs.View.{designView}
 use Rattle.layout.specs.Layout.{cascadePlaces}
-use Rattle.capi.proofs.Laws.{numbers-are, counts-are, design-unfit, design-refused, design-accepted}
+use Rattle.calls.proofs.Laws.{numbers-are, counts-are, design-unfit, design-refused, design-accepted}
 use borrow.Author.Needs.{needs}
 use Rattle.capi.proofs.design.hand_out.Statement.{statement}
 use Rattle.capi.proofs.design.hand_out.Tie as tie

@@ -8,9 +8,9 @@ use Rattle.layout.proofs.Laws.{cond-true}
 use lib.ListN.{length}
 use Rattle.taps.specs.Lent.{capacity}
 use Rattle.fir.specs.View.{madeView}
-use Rattle.capi.specs.Kinds.{tapsCounts}
-use Rattle.capi.specs.Calls.{tapsPlaces}
-use Rattle.capi.proofs.Laws.{taps-lengths, made-unfit, made-refused, made-accepted}
+use Rattle.calls.specs.Kinds.{tapsCounts}
+use Rattle.calls.specs.Calls.{tapsPlaces}
+use Rattle.calls.proofs.Laws.{taps-lengths, made-unfit, made-refused, made-accepted}
 use borrow.Author.Needs.{needs}
 use Rattle.capi.proofs.design.hand_out_taps.Statement.{statement}
 use Rattle.capi.proofs.design.hand_out_taps.Tie as tie

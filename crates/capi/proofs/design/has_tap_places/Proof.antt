@@ -1,7 +1,7 @@
 -- `capi::design::has_tap_places` meets its contract. Assumes nothing.
 use borrow.Author.Tests.{eq-eqb, ne-eqb}
-use Rattle.capi.specs.Calls.{tapsPlaces}
-use Rattle.capi.proofs.Laws.{taps-last}
+use Rattle.calls.specs.Calls.{tapsPlaces}
+use Rattle.calls.proofs.Laws.{taps-last}
 use Rattle.capi.proofs.design.has_tap_places.Statement.{statement}
 use Rattle.capi.proofs.design.has_tap_places.Tie as tie
 

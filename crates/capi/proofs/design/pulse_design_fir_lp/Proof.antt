@@ -1,7 +1,7 @@
 -- `capi::design::pulse_design_fir_lp` meets its contract. Assumes nothing.
 use mathlib.Core.Path.{_≡_}
 use borrow.Author.Tests.{lt-leb, le-leb}
-use Rattle.capi.specs.Calls.{firCall}
+use Rattle.calls.specs.Calls.{firCall}
 use borrow.Author.Needs.{needs}
 use Rattle.capi.proofs.design.pulse_design_fir_lp.Statement.{statement}
 use Rattle.capi.proofs.design.pulse_design_fir_lp.Tie as tie

@@ -1,7 +1,7 @@
 -- `capi::filters::pulse_fir_block` meets its contract. Assumes nothing.
-use Rattle.capi.specs.Kinds.{firKind}
+use Rattle.calls.specs.Kinds.{firKind}
 use Rattle.layout.proofs.Places.{set-one}
-use Rattle.capi.proofs.Laws.{block-not-single, block-unfit, uncounted, fir-block-refused, fir-block-accepted}
+use Rattle.calls.proofs.Laws.{block-not-single, block-unfit, uncounted, fir-block-refused, fir-block-accepted}
 use borrow.Author.Needs.{needs}
 use Rattle.capi.proofs.filters.pulse_fir_block.Statement.{statement}
 use Rattle.capi.proofs.filters.pulse_fir_block.Tie as tie

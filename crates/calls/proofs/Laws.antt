@@ -17,8 +17,8 @@ use Rattle.designs.specs.Design.{DesignRecord}
 use Rattle.cascade.specs.Cascade.{CascadeRecord, blankCascade}
 use Rattle.layout.proofs.Laws.{fits-places, cond-true}
 use Rattle.layout.specs.Layout.{flag, cascadeAt, cascadePlaces, cascadeFits, cascadeNumbers, cascadeCounts}
-use Rattle.capi.specs.Kinds.{Kind, tapsCounts, tapsAt, tapsFit, firKind}
-use Rattle.capi.specs.Calls.{Call, Stored, TapsStored, recordOf, fitting, unchanged, stepCall, blockCall, resetCall, notStored, designCall, tapsUnchanged, tapsPlaces, madeCall}
+use Rattle.calls.specs.Kinds.{Kind, tapsCounts, tapsAt, tapsFit, firKind}
+use Rattle.calls.specs.Calls.{Call, Stored, TapsStored, recordOf, fitting, unchanged, stepCall, blockCall, resetCall, notStored, designCall, tapsUnchanged, tapsPlaces, madeCall}
 use Rattle.layout.proofs.Places.{both, set-middle}
 
 -- ---- a cascade read from slices that fit, and written into slices that have its places

@@ -14,7 +14,7 @@ use Rattle.windows.specs.Fir.{firLp}
 use Rattle.windows.specs.declared.WindowType.{WindowType}
 use Rattle.designs.specs.Design.{DesignRecord}
 use Rattle.layout.specs.Layout.{flag, cascadePlaces, cascadeNumbers, cascadeCounts}
-use Rattle.capi.specs.Kinds.{Kind, tapsCounts}
+use Rattle.calls.specs.Kinds.{Kind, tapsCounts}
 
 -- ---- a step and a block: the numbers and counts of the record, the places of the answers, and the place of the count of Clouded answers
 pub record Call : Type 0 where

@@ -1,0 +1,3 @@
+-- The calls of the C interface. Kinds: how records stand in lent slices. Calls: what each call returns, and what every slice holds after it.
+pub mod Kinds
+pub mod Calls

@@ -1,3 +1,0 @@
--- The C interface. Kinds: how records stand in lent slices. Calls: what each call returns, and what every slice holds after it.
-pub mod Kinds
-pub mod Calls
