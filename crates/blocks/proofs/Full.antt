@@ -2,7 +2,7 @@
 -- them. Assumes nothing.
 use mathlib.Core.Path.{_≡_, refl, sym, ap, ap₂, _∙_, subst}
 use mathlib.Core.Bool.{Bool, true, false, not, _||_, cond}
-use mathlib.Core.List.{List, [], _∷_, _++_, reverseAux, reverse}
+use mathlib.Core.List.{List, [], _∷_, _++_, reverseAux}
 use Prim.Native.Nat.{ℕ, zero, suc, _+_, _-_, _<_, _≤_, min}
 use native.Mathlib.Nat.{add-zero, suc-sub-suc, sub-zero}
 use native.Mathlib.Omega.{arith}

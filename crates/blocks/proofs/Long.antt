@@ -2,10 +2,10 @@
 use mathlib.Core.Path.{_≡_, refl, sym, ap, _∙_}
 use mathlib.Core.Bool.{Bool, true, false, cond}
 use mathlib.Core.List.{List, [], _∷_, _++_, reverseAux}
-use Prim.Native.Nat.{ℕ, zero, suc, _+_, _-_, _≤_, min}
+use Prim.Native.Nat.{ℕ, suc, _+_, _-_, _≤_, min}
 use native.Mathlib.Nat.{add-zero}
 use native.Mathlib.Omega.{arith}
-use lib.Dec.{ltb, leb}
+use lib.Dec.{ltb}
 use lib.ListN.{length, take, drop, length-take, length-drop, take-append-drop, drop-of-length-le}
 use lib.Seq.{drop-drop}
 use lib.Ieee.{Float, Format, binary64}
@@ -18,7 +18,7 @@ use Rattle.taps.specs.Fir.{TapsRecord, checkTaps, fir}
 use Rattle.blocks.specs.Blocks.{backFrom, finiteRun, cloudsFrom, newestOf, ranBlock, FullRun}
 use Rattle.taps.specs.Lent.{lentTaps, capacity as places}
 use Rattle.taps.proofs.Laws.{sizes, check-next}
-use Rattle.blocks.proofs.Full.{Full, values, told, answers-full, after-full, written-told, count-told, held-after}
+use Rattle.blocks.proofs.Full.{Full, values, answers-full, after-full, written-told, count-told, held-after}
 use Rattle.blocks.proofs.Window.{newest-of-few, newest-of-many, second-stretch, both-stretches}
 
 placed-none : (output : List Float) (to : ℕ) → placed output to [] ≡ output

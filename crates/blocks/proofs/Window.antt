@@ -4,7 +4,7 @@ use mathlib.Core.List.{List, [], _∷_, _++_, reverseAux, append-assoc}
 use Prim.Native.Nat.{ℕ, zero, suc, _+_, _-_, _<_, _≤_}
 use native.Mathlib.Nat.{sub-zero}
 use native.Mathlib.Omega.{arith}
-use lib.ListN.{length, getD, take, drop, length-take, length-drop, length-append, take-append-drop, List·getD-append}
+use lib.ListN.{length, getD, take, drop, length-drop, length-append, take-append-drop, List·getD-append}
 use lib.Seq.{take-all, getD-take, getD-drop, getD-append-add, length-take-le, take-at}
 use lib.Ieee.{Float, nan, Format}
 use Rattle.convolution.specs.Convolution.{sumsFrom, placed}

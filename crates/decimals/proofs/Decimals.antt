@@ -9,7 +9,7 @@ use lib.Dec.{leb, ltb}
 use lib.IntN.{ℤ, pos, negsuc}
 use lib.ListN.{length}
 use lib.Pow.{pow-pos}
-use lib.Ieee.{Float, nan, inf, fin, Format, binary64, up, down, div, round, ofInt}
+use lib.Ieee.{Float, nan, inf, fin, Format, binary64, up, down, div, ofInt}
 use lib.Ieee.Exact.{HasValue}
 use lib.Ieee.Back.{round-whole}
 use borrow.Author.Tests.{leb-true, ltb-true}

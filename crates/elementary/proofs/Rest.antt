@@ -24,7 +24,7 @@ use Rattle.ieee.proofs.Fractions.{Cmp, cmp, Half, closest-half}
 use Rattle.scalar.specs.Constants.{half}
 use Rattle.scalar.specs.Sign.{absOf}
 use Rattle.scalar.proofs.Signs.{not-below-zero}
-use Rattle.elementary.specs.Whole.{Within, nearestOf, signed, NearestWhole}
+use Rattle.elementary.specs.Whole.{Within, nearestOf, NearestWhole}
 
 -- ---- the whole part
 pub trunc-low : (x : Float) → Within (2 ^ 52) x → T (lt (fin true 1 (pos 0)) (absOf x))

@@ -9,7 +9,7 @@ use native.Mathlib.Omega.{arith}
 use lib.Dec.{T, isLe, isEq, ltb, eqb, leb→le, nleb→lt, eqb→eq, eqb-refl, ltb→lt, nltb→le}
 use lib.Arith.{lt-of-le-ne}
 use lib.Pow.{pow-add, pow-pos, pow-mono, pow-lt}
-use lib.Ieee.{Float, inf, Format, prec, emax, low, size, nearest, odd, units, round, fits}
+use lib.Ieee.{Float, inf, Format, prec, emax, low, size, nearest, odd, units, round}
 use lib.Ieee.Digits.{size-reaches}
 use lib.Ieee.Fits.{two, reach, two-le-pos, nearest-le, kept-lt, odd-fits, inf-fits, round-is}
 use lib.Ieee.Exact.{odd-sign}

@@ -9,7 +9,7 @@ use mathlib.Core.Bool.{Bool, true, false, not, cond, true≢false}
 use lib.IntN.{pos}
 use lib.Dec.{T, leb, ltb, eqb, eqb→eq, not-T, T-not, lt→ltb, ltb→lt, nltb→le, nleb→lt}
 use lib.Arith.{lt→nleb, le→nltb}
-use lib.Ieee.{Float, nan, inf, fin, binary64, up, down, odd, ofFields, ofBits, fits, lt, ne, isNan, nanBits}
+use lib.Ieee.{Float, nan, inf, fin, binary64, up, down, odd, ofFields, ofBits, lt, ne, isNan, nanBits}
 use lib.Ieee.Bits.{is-false, cond-no, ofBits-fits, nanBits-is, nanBits-above}
 use lib.Ieee.Compare.{differs-from-itself, nan-differs}
 use lib.Ieee.Exact.{HasValue, odd-sign}

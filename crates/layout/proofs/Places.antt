@@ -5,13 +5,11 @@ use mathlib.Core.List.{List, [], _∷_, _++_, map, append-nil}
 use Prim.Native.Nat.{ℕ, _+_, _≤_}
 use native.Mathlib.Nat.{add-zero}
 use native.Mathlib.Omega.{arith}
-use lib.Dec.{eqb}
-use lib.ListN.{length, getD, set, take, drop, drop-of-length-le, length-append, length-drop}
+use lib.ListN.{length, getD, set, drop, drop-of-length-le, length-append, length-drop}
 use lib.Seq.{take-at}
-use lib.Ieee.{Float, nan}
-use borrow.Author.Tests.{eqb-true}
+use lib.Ieee.{Float}
 use Rattle.convolution.specs.Convolution.{placed}
-use Rattle.convolution.proofs.Sums.{put-start, put-turn, put-done, placed-length, placed-more}
+use Rattle.convolution.proofs.Sums.{put-start, put-turn, put-done, placed-more}
 use Rattle.sections.specs.View.{sectionView}
 use Rattle.sections.specs.declared.section.Section.{Section}
 use Rattle.layout.specs.Layout.{sectionNumbers, sectionsNumbers}

@@ -2,7 +2,7 @@
 use mathlib.Core.Path.{_≡_}
 use Prim.Native.Nat.{_-_, _*_, _≤_, _<_}
 use mathlib.Core.Bool.{true, false, cond}
-use lib.IntN.{ℤ, pos, _+ℤ_}
+use lib.IntN.{pos, _+ℤ_}
 use lib.Ieee as Ieee
 use lib.Ieee.{Float, nan, inf, fin, size, minus, up, down}
 use lib.Ieee.Positive.{num, den}

@@ -9,7 +9,7 @@ use lib.ListN.{length}
 use lib.Ieee.{Float}
 use Rattle.runs.specs.Refusals.{Accepted, ShortOutput}
 use Rattle.runs.specs.Runs as Runs
-use Rattle.runs.specs.Runs.{Answer, clear, clouded, refused, marked, refusalOf, cloudedIn, written, Filter, Fresh}
+use Rattle.runs.specs.Runs.{Answer, clouded, refused, marked, refusalOf, cloudedIn, written, Filter, Fresh}
 
 -- a call with its arguments other than the record; a block brings its own input and output
 pub data Call : Type 0 where

@@ -4,7 +4,7 @@ use mathlib.Core.Bool.{Bool, true, false, not, cond}
 use Prim.Native.Nat.{ℕ, suc, _+_, _-_, _*_, _≤_, _<_}
 use native.Mathlib.Nat.{le-of-eq, mul-right-comm, eq-of-mul-eq-mul-right}
 use native.Mathlib.Omega.{arith}
-use lib.IntN.{ℤ, pos, negsuc, _+ℤ_}
+use lib.IntN.{pos, negsuc, _+ℤ_}
 use lib.Dec.{T, ltb, leb, leb→le, nleb→lt, ltb→lt, nltb→le}
 use lib.Ieee.{Float, nan, inf, fin, binary64, up, down, fits, minus}
 use lib.Ieee.Exact.{HasValue}

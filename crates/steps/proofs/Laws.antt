@@ -7,7 +7,7 @@ use lib.Ieee.{Float}
 use borrow.Author.Tests.{eq-eqb, ne-eqb, lt-ltb, le-ltb}
 use Rattle.runs.specs.Refusals.{Accepted, ShortOutput}
 use Rattle.runs.specs.Runs.{Filter, answers, written}
-use Rattle.steps.specs.Steps.{Stepped, stepsOf}
+use Rattle.steps.specs.Steps.{stepsOf}
 
 module _ (F : Filter) (n : ℕ) (s : F .State) (input output : List Float) where
   pub steps-refused : (n ≡ 0 → ⊥) → record { refusal = n; output = output } ≡ stepsOf F n s input output

@@ -8,15 +8,15 @@ use native.Mathlib.Omega.{arith}
 use native.Mathlib.Numerals.{unary-clauses}
 use native.Mathlib.Nat.{min-zero}
 use lib.Dec.{leb}
-use lib.ListN.{length, take, drop, length-take, length-replicate, length-append, length-drop}
-use lib.Seq.{take-append-le, take-take, take-nil, length-take-le}
+use lib.ListN.{length, take, length-take, length-replicate}
+use lib.Seq.{take-take, take-nil, length-take-le}
 use lib.Ieee.{Float, Format, add, mul}
 use borrow.Author.Tests.{leb-true}
 use Rattle.runs.specs.Runs.{plusZero, marked, notAllFinite}
 use Rattle.runs.specs.Forgetting.{Call}
 use Rattle.runs.proofs.Forgetting as runs
 use Rattle.runs.proofs.Forgetting.{Simulates}
-use Rattle.taps.specs.Fir.{TapsRecord, pushed, next, heldOf, clouding, sum, value, mark, checkTaps, clearedTaps, fir}
+use Rattle.taps.specs.Fir.{TapsRecord, next, heldOf, clouding, sum, value, mark, checkTaps, clearedTaps, fir}
 use Rattle.taps.specs.Plain.{tapsOf, used, plainFir, FirForgets}
 use Rattle.taps.proofs.Laws.{take-pushed, length-pushed, sizes, check-next, check-cleared, sum-none}
 

@@ -8,7 +8,7 @@ ghost use Rattle.scalar.specs.Constants.{plusZero};
 ghost use Rattle.taps.specs.Lent.{capacity};
 ghost use Rattle.fir.specs.View.{madeView};
 ghost use Rattle.checks.specs.Lists.{upTo};
-ghost use Rattle.windows.specs.Fir.{codeOf, weightOf, sincOf, tapOf, totalFrom, normalisedBy, firTaps, firLp};
+ghost use Rattle.windows.specs.Fir.{codeOf, weightOf, sincOf, tapOf, totalFrom, normalisedBy, firLp};
 use checks::validate_fir;
 use fir::Made;
 use fir::TapRecord;

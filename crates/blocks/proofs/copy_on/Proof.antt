@@ -3,7 +3,7 @@ use borrow.Author.Needs.{needs}
 -- `blocks::copy_on` meets its contract. Assumes nothing.
 use Prim.Native.Nat.{_-_}
 use native.Mathlib.Omega.{arith}
-use lib.ListN.{length, take, drop}
+use lib.ListN.{take, drop}
 use Rattle.convolution.proofs.Sums.{Putting, put-start}
 use Rattle.blocks.proofs.copy_on.Statement.{statement}
 use Rattle.blocks.proofs.copy_on.Tie as tie

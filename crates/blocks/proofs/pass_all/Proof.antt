@@ -1,6 +1,6 @@
 -- `blocks::pass_all` meets its contract. Assumes nothing.
 use Prim.Native.Nat.{_-_, min}
-use mathlib.Core.Path.{_≡_, refl, sym}
+use mathlib.Core.Path.{_≡_, refl}
 use mathlib.Core.Logic.{⊎-elim}
 use native.Mathlib.Omega.{arith}
 use lib.ListN.{length}

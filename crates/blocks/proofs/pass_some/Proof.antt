@@ -1,10 +1,10 @@
 -- `blocks::pass_some` meets its contract. Assumes nothing.
-use Prim.Native.Nat.{_≤_, _-_}
-use mathlib.Core.Path.{_≡_, refl, sym, _∙_}
+use Prim.Native.Nat.{_-_}
+use mathlib.Core.Path.{_≡_, sym, _∙_}
 use mathlib.Core.Bool.{true}
 use mathlib.Core.Logic.{⊎-elim}
 use native.Mathlib.Omega.{arith}
-use lib.ListN.{length, take, getD}
+use lib.ListN.{take, getD}
 use lib.Seq.{length-take-le, getD-take}
 use lib.Ieee.{nan, binary64}
 use borrow.Author.Needs.{needs}

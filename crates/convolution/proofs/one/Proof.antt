@@ -1,6 +1,6 @@
 -- `convolution::one` meets its contract. Assumes nothing.
 use Prim.Native.Nat.{_-_, _≤_}
-use mathlib.Core.Path.{_≡_, refl, ap}
+use mathlib.Core.Path.{_≡_, refl}
 use native.Mathlib.Omega.{arith}
 use lib.Ieee.{binary64, ofBits}
 use Rattle.convolution.specs.Convolution.{sumAt}

@@ -3,7 +3,7 @@ use mathlib.Core.Path.{_≡_, refl, sym, subst}
 use mathlib.Core.Bool.{Bool, not}
 use native.Mathlib.Omega.{arith}
 use lib.Dec.{T}
-use lib.Ieee.{Float, fin, binary64, nanBits, ofBits, toBits, sub, lt}
+use lib.Ieee.{Float, binary64, nanBits, ofBits, toBits, sub}
 use lib.Ieee.Bits.{ofBits-toBits}
 use Rattle.ieee.specs.Sqrt.{Sqrt, sqrtOf}
 use Rattle.ieee.proofs.Unique.{sqrt-unique}

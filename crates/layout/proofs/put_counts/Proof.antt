@@ -1,5 +1,5 @@
 -- `layout::put_counts` meets its contract. Assumes nothing.
-use mathlib.Core.Path.{refl, sym, _∙_}
+use mathlib.Core.Path.{sym, _∙_}
 use mathlib.Core.List.{_∷_, []}
 use lib.Dec.{eqb}
 use lib.ListN.{length}

@@ -1,5 +1,4 @@
 -- `taps::fit` meets its contract. Assumes nothing.
-use mathlib.Core.Path.{refl}
 use borrow.Author.Tests.{eq-eqb, ne-eqb}
 use Rattle.taps.specs.Lent.{fits}
 use Rattle.taps.proofs.fit.Statement.{statement}

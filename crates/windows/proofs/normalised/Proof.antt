@@ -1,5 +1,5 @@
 -- `windows::normalised` meets its contract. Assumes nothing.
-use mathlib.Core.Path.{sym, ap}
+use mathlib.Core.Path.{sym}
 use lib.ListN.{take-append-drop}
 use Rattle.windows.specs.Fir.{normalisedBy}
 use borrow.Author.Needs.{needs}

@@ -1,7 +1,4 @@
 -- `capi::answer::put` meets its contract. Assumes nothing.
-use mathlib.Core.Path.{_∙_, ap}
-use mathlib.Core.List.{List, _∷_, []}
-use Prim.Native.Nat.{ℕ}
 use Rattle.layout.specs.Layout.{flag}
 use Rattle.layout.proofs.Places.{set-one}
 use borrow.Author.Needs.{needs}

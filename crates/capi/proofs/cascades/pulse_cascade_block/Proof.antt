@@ -1,10 +1,7 @@
 -- `capi::cascades::pulse_cascade_block` meets its contract. Assumes nothing.
 use mathlib.Core.Path.{_≡_, sym, _∙_}
-use mathlib.Core.Bool.{true, _&&_}
-use lib.Dec.{eqb}
-use lib.ListN.{length}
+use mathlib.Core.Bool.{true}
 use borrow.Author.Tests.{not-true, not-false}
-use Rattle.runs.specs.Runs.{Block}
 use Rattle.runs.specs.Lent.{lentBlock}
 use Rattle.cascade.specs.View.{blockView}
 use Rattle.layout.specs.Layout.{cascadeFits}

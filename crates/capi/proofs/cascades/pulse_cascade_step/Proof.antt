@@ -4,11 +4,8 @@ use mathlib.Core.Bool.{true, _&&_}
 use lib.Dec.{eqb}
 use lib.ListN.{length}
 use borrow.Author.Tests.{not-true, not-false}
-use Rattle.runs.specs.Runs.{Step}
 use Rattle.runs.specs.Lent.{lentStep}
-use Rattle.runs.specs.View.{answerView}
-use Rattle.cascade.specs.Cascade.{CascadeRecord}
-use Rattle.cascade.specs.View.{cascadeView, updatedView}
+use Rattle.cascade.specs.View.{updatedView}
 use Rattle.layout.specs.Layout.{cascadeFits}
 use Rattle.calls.specs.Kinds.{cascadeKind}
 use Rattle.calls.specs.Calls.{fitting, recordOf}

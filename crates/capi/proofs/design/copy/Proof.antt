@@ -1,6 +1,6 @@
 -- `capi::design::copy` meets its contract. Assumes nothing.
 use Prim.Native.Nat.{_≤_, _<_, _-_}
-use mathlib.Core.Path.{_≡_, refl}
+use mathlib.Core.Path.{refl}
 use native.Mathlib.Omega.{arith}
 use lib.ListN.{length}
 use Rattle.taps.proofs.Laws.{Copying, copy-start, copy-turn, copy-done}

@@ -1,5 +1,4 @@
 -- `capi::design::pulse_design_fir_lp` meets its contract. Assumes nothing.
-use mathlib.Core.Path.{_≡_}
 use borrow.Author.Tests.{lt-leb, le-leb}
 use Rattle.calls.specs.Calls.{firCall}
 use borrow.Author.Needs.{needs}

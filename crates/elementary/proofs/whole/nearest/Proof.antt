@@ -1,5 +1,5 @@
 -- `elementary::whole::nearest` meets its contract. Assumes nothing.
-use mathlib.Core.Path.{_≡_, sym, ap, _∙_, subst, subst⁻¹}
+use mathlib.Core.Path.{_≡_, sym, ap, _∙_, subst⁻¹}
 use Prim.Native.Nat.{ℕ, _≤_, _^_}
 use native.Mathlib.Nat.{le-trans, le-of-eq, lt-of-le-of-lt}
 use lib.IntN.{ℤ, pos, negℤ}
