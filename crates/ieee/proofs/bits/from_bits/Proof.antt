@@ -2,8 +2,6 @@
 use mathlib.Core.Path.{_≡_, refl, sym, _∙_}
 use lib.Ieee.{binary64, nan, div, ofBits}
 use Rattle.ieee.proofs.Patterns.{nan-pattern, number-pattern}
-use mathlib.Core.Path.{sym}
-use lib.Ieee as Ieee
 use borrow.Author.Needs.{needs}
 use Rattle.ieee.proofs.bits.from_bits.Statement.{statement}
 use Rattle.ieee.proofs.bits.from_bits.Tie as tie
