@@ -11,7 +11,7 @@ use lib.ListN.{length, getD, set, take, drop, length-set, length-take, length-dr
 use lib.Seq.{drop-cons, take-suc-set, drop-set-lt, getD-take, getD-drop}
 use lib.Ieee.{Float, nan}
 use lib.Ieee.Scale.{finite}
-use Rattle.convolution.specs.Convolution.{placed}
+use Rattle.convolution.specs.Convolution.{spliced}
 use Rattle.convolution.proofs.Sums.{Putting, put-turn, put-done}
 use Rattle.blocks.specs.Blocks.{backFrom, finiteRun, ageAfter, cloudsFrom}
 
@@ -127,5 +127,5 @@ on-turn x from m {to₀} {to} n j h k l p =
     let e = part-length x from m k in
     subst (λ (v : Float). Putting to₀ n (take m (drop from x)) (set to (n + j) v) (j + 1)) (part-at x from m j h) (put-turn n j (omega (arith, e)) (omega (arith, e)) p)
 
-pub on-done : (x : List Float) (from m : ℕ) {to₀ to : List Float} (n j : ℕ) → m ≤ j → from + m ≤ length x → Putting to₀ n (take m (drop from x)) to j → to ≡ placed to₀ n (take m (drop from x))
+pub on-done : (x : List Float) (from m : ℕ) {to₀ to : List Float} (n j : ℕ) → m ≤ j → from + m ≤ length x → Putting to₀ n (take m (drop from x)) to j → to ≡ spliced to₀ n (take m (drop from x))
 on-done x from m n j h k p = put-done n j (omega (arith, part-length x from m k)) p

@@ -12,7 +12,7 @@ use lib.Seq.{take-take, drop-at, length-take-le}
 use lib.Ieee.{Float, nan, Format, add, mul}
 use lib.Ieee.Scale.{finite}
 use borrow.Author.Tests.{le-ltb, lt-ltb, ltb-true, ltb-false}
-use Rattle.runs.specs.Runs.{Answer, plusZero, notAllFinite, marked, cloudedIn, written, placed as placedIn, isClouded, answer, answers, after}
+use Rattle.runs.specs.Runs.{Answer, plusZero, notAllFinite, marked, cloudedIn, written, placed, isClouded, answer, answers, after}
 use Rattle.runs.proofs.Laws.{answers-cons, after-cons}
 use Rattle.convolution.specs.Convolution.{sumAt, sumsFrom}
 use Rattle.taps.specs.Fir.{TapsRecord, pushed, next, heldOf, clouding, sum, value, mark, checkTaps, fir}
@@ -136,7 +136,7 @@ written-told f ts n L (x ∷ xs) [] h = absurd (omega arith)
 written-told f ts n L (x ∷ xs) (y ∷ output) h =
     ap₂ _∷_ (number (notAllFinite (take n (x ∷ L))) (sum f plusZero ts (take n (x ∷ L))) y) (written-told f ts n (x ∷ L) xs output (omega arith))
   where
-    number : (b : Bool) (v old : Float) → placedIn (marked b v) old ≡ v
+    number : (b : Bool) (v old : Float) → placed (marked b v) old ≡ v
     number true v old = refl
     number false v old = refl
 

@@ -12,8 +12,8 @@ use lib.Ieee.{Float, Format, binary64}
 use borrow.Author.Tests.{le-leb, ltb-true, ltb-false}
 use Rattle.runs.specs.Runs.{Answer, Block, cloudedIn, written, answers, after, block}
 use Rattle.runs.proofs.Laws.{front-is, check-after, written-length, block-parts, parts-few}
-use Rattle.convolution.specs.Convolution.{sumsFrom, placed, convolvable, convolved}
-use Rattle.convolution.proofs.Sums.{length-sums, placed-more, placed-length}
+use Rattle.convolution.specs.Convolution.{sumsFrom, spliced, convolvable, convolved}
+use Rattle.convolution.proofs.Sums.{length-sums, spliced-more, spliced-length}
 use Rattle.taps.specs.Fir.{TapsRecord, checkTaps, fir}
 use Rattle.blocks.specs.Blocks.{backFrom, finiteRun, cloudsFrom, newestOf, ranBlock, FullRun}
 use Rattle.taps.specs.Lent.{lentTaps, capacity as places}
@@ -21,9 +21,9 @@ use Rattle.taps.proofs.Laws.{sizes, check-next}
 use Rattle.blocks.proofs.Full.{Full, values, answers-full, after-full, written-told, count-told, held-after}
 use Rattle.blocks.proofs.Window.{newest-of-few, newest-of-many, second-stretch, both-stretches}
 
-placed-none : (output : List Float) (to : ℕ) → placed output to [] ≡ output
-unfolding placed
-placed-none output to = rw add-zero (take-append-drop to output)
+spliced-none : (output : List Float) (to : ℕ) → spliced output to [] ≡ output
+unfolding spliced
+spliced-none output to = rw add-zero (take-append-drop to output)
 
 values-length : (f : Format) (ts : List Float) (n : ℕ) (L xs : List Float) → length (values f ts n L xs) ≡ length xs
 unfolding values
@@ -80,23 +80,23 @@ module _ (capacity : ℕ) (f : Format) (r : TapsRecord) (input : List Float) (fr
       S₂ : List Float
       S₂ = sumsFrom f (r .taps) (r .size) input (from + e) (m - e)
 
-      first-placed : {output₁ : List Float} → output₁ ≡ convolved f (r .size) (r .taps) W (r .size) output₀ from e → output₁ ≡ placed output₀ from S₁
+      first-spliced : {output₁ : List Float} → output₁ ≡ convolved f (r .size) (r .taps) W (r .size) output₀ from e → output₁ ≡ spliced output₀ from S₁
       unfolding convolved convolvable S₁
-      first-placed g = g ∙ rw (le-leb (r .size) (r .size) (omega arith), le-leb (r .size) (length (r .taps)) room-taps, le-leb (r .size + e) (length W) long, le-leb (from + e) (length output₀) (omega arith))
+      first-spliced g = g ∙ rw (le-leb (r .size) (r .size) (omega arith), le-leb (r .size) (length (r .taps)) room-taps, le-leb (r .size + e) (length W) long, le-leb (from + e) (length output₀) (omega arith))
 
-      length-first : {output₁ : List Float} → output₁ ≡ placed output₀ from S₁ → length output₁ ≡ length output₀
+      length-first : {output₁ : List Float} → output₁ ≡ spliced output₀ from S₁ → length output₁ ≡ length output₀
       unfolding S₁
-      length-first g = ap length g ∙ placed-length output₀ from (sumsFrom f (r .taps) (r .size) W (r .size) e) (omega (arith, length-sums f (r .taps) W (r .size) (r .size) e))
+      length-first g = ap length g ∙ spliced-length output₀ from (sumsFrom f (r .taps) (r .size) W (r .size) e) (omega (arith, length-sums f (r .taps) W (r .size) (r .size) e))
 
-      second-placed : (output₁ : List Float) {output₂ : List Float} → length output₁ ≡ length output₀ → output₂ ≡ convolved f (r .size) (r .taps) input (from + e) output₁ (from + e) (m - e) → output₂ ≡ placed output₁ (from + e) S₂
+      second-spliced : (output₁ : List Float) {output₂ : List Float} → length output₁ ≡ length output₀ → output₂ ≡ convolved f (r .size) (r .taps) input (from + e) output₁ (from + e) (m - e) → output₂ ≡ spliced output₁ (from + e) S₂
       unfolding convolved convolvable S₂ sumsFrom
-      second-placed output₁ {output₂} l g = g ∙ go (ltb m (r .size)) refl
+      second-spliced output₁ {output₂} l g = g ∙ go (ltb m (r .size)) refl
         where
-          none : (b : Bool) → m - e ≡ 0 → cond b (placed output₁ (from + e) (sumsFrom f (r .taps) (r .size) input (from + e) (m - e))) output₁ ≡ placed output₁ (from + e) (sumsFrom f (r .taps) (r .size) input (from + e) (m - e))
+          none : (b : Bool) → m - e ≡ 0 → cond b (spliced output₁ (from + e) (sumsFrom f (r .taps) (r .size) input (from + e) (m - e))) output₁ ≡ spliced output₁ (from + e) (sumsFrom f (r .taps) (r .size) input (from + e) (m - e))
           none true z = refl
-          none false z = rw z (sym (placed-none output₁ (from + e)))
+          none false z = rw z (sym (spliced-none output₁ (from + e)))
 
-          go : (b : Bool) → ltb m (r .size) ≡ b → convolved f (r .size) (r .taps) input (from + e) output₁ (from + e) (m - e) ≡ placed output₁ (from + e) (sumsFrom f (r .taps) (r .size) input (from + e) (m - e))
+          go : (b : Bool) → ltb m (r .size) ≡ b → convolved f (r .size) (r .taps) input (from + e) output₁ (from + e) (m - e) ≡ spliced output₁ (from + e) (sumsFrom f (r .taps) (r .size) input (from + e) (m - e))
           go true t = let h = ltb-true m (r .size) t in none (convolvable (r .size) (r .taps) input (from + e) output₁ (from + e) (m - e)) (omega arith)
           go false t =
               let h = ltb-false m (r .size) t in
@@ -129,8 +129,8 @@ module _ (capacity : ℕ) (f : Format) (r : TapsRecord) (input : List Float) (fr
       unfolding S₁
       both-S = both-stretches f (r .taps) (r .size) (r .samples) input W from e some room-samples room-taps start most window S₂ second-values
 
-      as-written : placed output₀ from (values f (r .taps) (r .size) (r .samples) (drop from input)) ≡ take from output₀ ++ written (answers (fir capacity f) r (drop from input)) (drop from output₀)
-      unfolding placed
+      as-written : spliced output₀ from (values f (r .taps) (r .size) (r .samples) (drop from input)) ≡ take from output₀ ++ written (answers (fir capacity f) r (drop from input)) (drop from output₀)
+      unfolding spliced
       as-written =
           let vs = values f (r .taps) (r .size) (r .samples) (drop from input) in
           let a : drop (from + length vs) output₀ ≡ drop (length (drop from input)) (drop from output₀) = ap (λ (z : ℕ). drop (from + z) output₀) (values-length f (r .taps) (r .size) (r .samples) (drop from input)) ∙ sym (drop-drop (length (drop from input)) from output₀) in
@@ -142,10 +142,10 @@ module _ (capacity : ℕ) (f : Format) (r : TapsRecord) (input : List Float) (fr
           → output₂ ≡ convolved f (r .size) (r .taps) input (from + e) output₁ (from + e) (m - e)
           → output₂ ≡ take from output₀ ++ written (answers (fir capacity f) r (drop from input)) (drop from output₀)
       output-long output₁ {output₂} g h =
-          let p = first-placed g in
+          let p = first-spliced g in
           let fits : from + length S₁ + length S₂ ≤ length output₀ = omega (arith, length-S₁, length-S₂) in
-          second-placed output₁ (length-first p) h ∙ ap (λ (o : List Float). placed o (from + e) S₂) p ∙ ap (λ (z : ℕ). placed (placed output₀ from S₁) (from + z) S₂) (sym length-S₁) ∙ placed-more output₀ from S₁ S₂ fits
-          ∙ ap (placed output₀ from) both-S ∙ as-written
+          second-spliced output₁ (length-first p) h ∙ ap (λ (o : List Float). spliced o (from + e) S₂) p ∙ ap (λ (z : ℕ). spliced (spliced output₀ from S₁) (from + z) S₂) (sym length-S₁) ∙ spliced-more output₀ from S₁ S₂ fits
+          ∙ ap (spliced output₀ from) both-S ∙ as-written
 
 -- ---- the record after the samples that it lacked is full
 pub front-full : (capacity : ℕ) (f : Format) (r : TapsRecord) (input output₀ : List Float) (k : ℕ) → checkTaps capacity r ≡ true → k ≤ length input → length input ≤ length output₀ → k ≡ r .size - r .held

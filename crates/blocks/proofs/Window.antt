@@ -7,7 +7,7 @@ use native.Mathlib.Omega.{arith}
 use lib.ListN.{length, getD, take, drop, length-drop, length-append, take-append-drop, List·getD-append}
 use lib.Seq.{take-all, getD-take, getD-drop, getD-append-add, length-take-le, take-at}
 use lib.Ieee.{Float, nan, Format}
-use Rattle.convolution.specs.Convolution.{sumsFrom, placed}
+use Rattle.convolution.specs.Convolution.{sumsFrom, spliced}
 use borrow.Author.Tests.{lt-ltb, le-ltb}
 use Rattle.blocks.specs.Blocks.{backFrom, newestOf}
 use Rattle.blocks.proofs.Copies.{part-length}
@@ -34,9 +34,9 @@ values-append f ts n L [] b = refl
 values-append f ts n L (x ∷ a) b = ap₂ _∷_ refl (values-append f ts n (x ∷ L) a b)
 
 -- what the two copies make of a list of numbers
-pub window-is : (s input W₀ W₁ W : List Float) (n from m : ℕ) → from + m ≤ length input → W₁ ≡ backFrom n s (n - 1) ++ drop n W₀ → W ≡ placed W₁ n (take m (drop from input))
+pub window-is : (s input W₀ W₁ W : List Float) (n from m : ℕ) → from + m ≤ length input → W₁ ≡ backFrom n s (n - 1) ++ drop n W₀ → W ≡ spliced W₁ n (take m (drop from input))
     → take (n + m) W ≡ backFrom n s (n - 1) ++ take m (drop from input)
-unfolding placed
+unfolding spliced
 window-is s input W₀ W₁ W n from m h e g =
     let A = backFrom n s (n - 1) in
     let ys = take m (drop from input) in

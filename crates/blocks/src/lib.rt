@@ -9,7 +9,7 @@ ghost use lib.ListN.{length, take, drop};
 ghost use lib.Ieee.{binary64};
 ghost use Rattle.runs.specs.Runs.{block};
 ghost use Rattle.runs.specs.Lent.{lentBlock};
-ghost use Rattle.convolution.specs.Convolution.{placed};
+ghost use Rattle.convolution.specs.Convolution.{spliced};
 ghost use Rattle.taps.specs.Fir.{checkTaps, fir};
 ghost use Rattle.taps.specs.Lent.{capacity, lentTaps, fits};
 ghost use Rattle.blocks.specs.Blocks.{backFrom, finiteRun, ageAfter, cloudsFrom, newestOf, ranBlock, FullRun};
@@ -42,7 +42,7 @@ fn copy_back(x: &[f64], last: usize, n: usize, to: &mut [f64])
 // m samples of x from place `from` on, into `to` from place n on.
 fn copy_on(x: &[f64], from: usize, m: usize, to: &mut [f64], n: usize)
     requires { ⌜ (from + m ≤ length (now x)) × (n + m ≤ length (now to)) ⌝ }
-    ensures { λ _. ⌜ now (to .exit) ≡ placed (now (to .entry)) n (take m (drop from (now (x .entry)))) ⌝ }
+    ensures { λ _. ⌜ now (to .exit) ≡ spliced (now (to .entry)) n (take m (drop from (now (x .entry)))) ⌝ }
 {
     let mut j: usize = 0;
     while j < m {

@@ -11,7 +11,7 @@ use borrow.Author.Tests.{le-leb, lt-leb, leb-true, leb-false}
 use lib.ListN.{length, getD, set, take, drop, length-set, take-append-drop, drop-of-length-le, length-append, length-take, length-drop}
 use lib.Seq.{drop-cons, take-suc-set, drop-set-lt, drop-drop, take-at, drop-at, set-split}
 use lib.Ieee.{Float, nan, Format, add, mul}
-use Rattle.convolution.specs.Convolution.{sumAt, sumsFrom, scaled, placed, convolvable, convolved}
+use Rattle.convolution.specs.Convolution.{sumAt, sumsFrom, scaled, spliced, convolvable, convolved}
 
 module _ (f : Format) (sums₀ : List Float) (t : Float) (x : List Float) (k : ℕ) where
   -- the sums before j are done
@@ -67,15 +67,15 @@ module _ (f : Format) (taps : List Float) (x : List Float) where
   sums-append n k (suc a) b = rw (suc-add, add-suc) (ap (λ (l : List Float). sumAt f taps n x k ∷ l) (sums-append n (suc k) a b ∙ ap (λ (z : ℕ). sumsFrom f taps n x (suc k) a ++ sumsFrom f taps n x z b) (suc-add k a)))
 
 -- ---- what is put into a list
-pub placed-length : (output : List Float) (to : ℕ) (ys : List Float) → to + length ys ≤ length output → length (placed output to ys) ≡ length output
-unfolding placed
-placed-length output to ys h = simp (length-append, length-take, length-drop) (omega arith)
+pub spliced-length : (output : List Float) (to : ℕ) (ys : List Float) → to + length ys ≤ length output → length (spliced output to ys) ≡ length output
+unfolding spliced
+spliced-length output to ys h = simp (length-append, length-take, length-drop) (omega arith)
 
 -- more behind what was put
-pub placed-more : (output : List Float) (to : ℕ) (ys zs : List Float) → to + length ys + length zs ≤ length output
-    → placed (placed output to ys) (to + length ys) zs ≡ placed output to (ys ++ zs)
-unfolding placed
-placed-more output to ys zs h =
+pub spliced-more : (output : List Float) (to : ℕ) (ys zs : List Float) → to + length ys + length zs ≤ length output
+    → spliced (spliced output to ys) (to + length ys) zs ≡ spliced output to (ys ++ zs)
+unfolding spliced
+spliced-more output to ys zs h =
     let front = take to output ++ ys in
     let back = drop (to + length ys) output in
     let l : length front ≡ to + length ys = simp (length-append, length-take) (omega arith) in
@@ -88,10 +88,10 @@ placed-more output to ys zs h =
 pub record Putting (output₀ : List Float) (to : ℕ) (ys output : List Float) (j : ℕ) : Type 0 where
   pub within : j ≤ length ys
   pub same : length output ≡ length output₀
-  pub places : take (to + j) output ++ (drop j ys ++ drop (to + length ys) output) ≡ placed output₀ to ys
+  pub places : take (to + j) output ++ (drop j ys ++ drop (to + length ys) output) ≡ spliced output₀ to ys
 
 pub put-start : (output : List Float) (to : ℕ) (ys : List Float) → Putting output to ys output 0
-unfolding placed
+unfolding spliced
 put-start output to ys = record { within = omega arith; same = refl; places = rw add-zero }
 
 pub put-turn : {output₀ : List Float} (to : ℕ) {ys output : List Float} (j : ℕ) → j < length ys → to + length ys ≤ length output₀ → Putting output₀ to ys output j
@@ -106,7 +106,7 @@ put-turn to {ys} {output} j h k p =
       places = rw (add-one, add-suc, take-suc-set output (to + j) v l, drop-set-lt (to + length ys) output (to + j) v (omega arith), append-assoc) (rw d at (p .places));
     }
 
-pub put-done : {output₀ : List Float} (to : ℕ) {ys output : List Float} (j : ℕ) → length ys ≤ j → Putting output₀ to ys output j → output ≡ placed output₀ to ys
+pub put-done : {output₀ : List Float} (to : ℕ) {ys output : List Float} (j : ℕ) → length ys ≤ j → Putting output₀ to ys output j → output ≡ spliced output₀ to ys
 put-done to {ys} {output} j h p =
     let d = drop-of-length-le ys {i = j} h in
     let q : j ≡ length ys = omega (arith, p .within) in
@@ -125,44 +125,44 @@ module _ (f : Format) (taps : List Float) (n : ℕ) (x : List Float) (at : ℕ) 
   pub record Outputting (output : List Float) (j : ℕ) : Type 0 where
     pub within : j ≤ m
     pub same : length output ≡ length output₀
-    pub places : output ≡ placed output₀ to (sumsFrom f taps n x at j)
+    pub places : output ≡ spliced output₀ to (sumsFrom f taps n x at j)
 
   pub out-start : Outputting output₀ 0
-  unfolding placed sumsFrom
+  unfolding spliced sumsFrom
   out-start = record { within = omega arith; same = refl; places = rw add-zero (sym (take-append-drop to output₀)) }
 
   -- d sums more behind them
-  pub out-turn : {output after ys : List Float} {j : ℕ} (d : ℕ) → j + d ≤ m → to + m ≤ length output₀ → ys ≡ sumsFrom f taps n x (at + j) d → after ≡ placed output (to + j) ys → Outputting output j → Outputting after (j + d)
+  pub out-turn : {output after ys : List Float} {j : ℕ} (d : ℕ) → j + d ≤ m → to + m ≤ length output₀ → ys ≡ sumsFrom f taps n x (at + j) d → after ≡ spliced output (to + j) ys → Outputting output j → Outputting after (j + d)
   out-turn {output} {after} {ys} {j} d h k e g p =
       let A = sumsFrom f taps n x at j in
       let B = sumsFrom f taps n x (at + j) d in
       let la : length A ≡ j = length-sums f taps x n at j in
       let lb : length B ≡ d = length-sums f taps x n (at + j) d in
       let room : to + length A + length B ≤ length output₀ = omega (arith, la, lb) in
-      let q : after ≡ placed (placed output₀ to A) (to + length A) B = g ∙ ap₂ (λ (o y : List Float). placed o (to + j) y) (p .places) e ∙ ap (λ (z : ℕ). placed (placed output₀ to A) (to + z) B) (sym la) in
-      let r : after ≡ placed output₀ to (sumsFrom f taps n x at (j + d)) = q ∙ placed-more output₀ to A B room ∙ ap (placed output₀ to) (sym (sums-append f taps x n at j d)) in
+      let q : after ≡ spliced (spliced output₀ to A) (to + length A) B = g ∙ ap₂ (λ (o y : List Float). spliced o (to + j) y) (p .places) e ∙ ap (λ (z : ℕ). spliced (spliced output₀ to A) (to + z) B) (sym la) in
+      let r : after ≡ spliced output₀ to (sumsFrom f taps n x at (j + d)) = q ∙ spliced-more output₀ to A B room ∙ ap (spliced output₀ to) (sym (sums-append f taps x n at j d)) in
       record {
         within = h;
-        same = ap length r ∙ placed-length output₀ to (sumsFrom f taps n x at (j + d)) (omega (arith, length-sums f taps x n at (j + d)));
+        same = ap length r ∙ spliced-length output₀ to (sumsFrom f taps n x at (j + d)) (omega (arith, length-sums f taps x n at (j + d)));
         places = r;
       }
 
   -- one sum more, stored by itself
   pub out-one : {output : List Float} {v : Float} {j : ℕ} → j < m → to + m ≤ length output₀ → v ≡ sumAt f taps n x (at + j) → Outputting output j → Outputting (set output (to + j) v) (j + 1)
-  unfolding placed sumsFrom
+  unfolding spliced sumsFrom
   out-one {output} {v} {j} h k e p =
       out-turn 1 (omega arith) k (ap (λ (y : Float). y ∷ []) e) (set-split output (to + j) v (omega (arith, p .same)) ∙ ap (λ (z : ℕ). take (to + j) output ++ v ∷ drop z output) (sym (add-one (to + j)))) p
 
-  pub out-done : {output : List Float} {j : ℕ} → m ≤ j → Outputting output j → output ≡ placed output₀ to (sumsFrom f taps n x at m)
-  out-done {output} {j} h p = let q : j ≡ m = omega (arith, p .within) in p .places ∙ ap (λ (z : ℕ). placed output₀ to (sumsFrom f taps n x at z)) q
+  pub out-done : {output : List Float} {j : ℕ} → m ≤ j → Outputting output j → output ≡ spliced output₀ to (sumsFrom f taps n x at m)
+  out-done {output} {j} h p = let q : j ≡ m = omega (arith, p .within) in p .places ∙ ap (λ (z : ℕ). spliced output₀ to (sumsFrom f taps n x at z)) q
 
 -- ---- the two parts together
 pub parts : (f : Format) (taps : List Float) (n : ℕ) (x : List Float) (at : ℕ) (output₀ output output′ : List Float) (to m j : ℕ) → j ≤ m → to + m ≤ length output₀
-    → output ≡ placed output₀ to (sumsFrom f taps n x at j) → output′ ≡ placed output (to + j) (sumsFrom f taps n x (at + j) (m - j)) → output′ ≡ placed output₀ to (sumsFrom f taps n x at m)
+    → output ≡ spliced output₀ to (sumsFrom f taps n x at j) → output′ ≡ spliced output (to + j) (sumsFrom f taps n x (at + j) (m - j)) → output′ ≡ spliced output₀ to (sumsFrom f taps n x at m)
 parts f taps n x at output₀ output output′ to m j h k e g =
-    let l : length output ≡ length output₀ = ap length e ∙ placed-length output₀ to (sumsFrom f taps n x at j) (omega (arith, length-sums f taps x n at j)) in
+    let l : length output ≡ length output₀ = ap length e ∙ spliced-length output₀ to (sumsFrom f taps n x at j) (omega (arith, length-sums f taps x n at j)) in
     let q : j + (m - j) ≡ m = omega arith in
-    out-turn f taps n x at output₀ to m (m - j) (omega arith) k refl g (record { within = h; same = l; places = e }) .places ∙ ap (λ (z : ℕ). placed output₀ to (sumsFrom f taps n x at z)) q
+    out-turn f taps n x at output₀ to m (m - j) (omega arith) k refl g (record { within = h; same = l; places = e }) .places ∙ ap (λ (z : ℕ). spliced output₀ to (sumsFrom f taps n x at z)) q
 
 -- ---- whether all places are there
 pub room : (length at m : ℕ) → at ≤ length → leb m (length - at) ≡ leb (at + m) length
@@ -193,7 +193,7 @@ module _ (f : Format) (n : ℕ) (taps x : List Float) (at : ℕ) (output : List 
   unfolding convolvable
   no-places e = left-as-was (rw (← e, and-false, and-false, and-false))
 
-  pub all-there : {after : List Float} → n ≤ at → n ≤ length taps → true ≡ leb (at + m) (length x) → true ≡ leb (to + m) (length output) → after ≡ placed output to (sumsFrom f taps n x at m)
+  pub all-there : {after : List Float} → n ≤ at → n ≤ length taps → true ≡ leb (at + m) (length x) → true ≡ leb (to + m) (length output) → after ≡ spliced output to (sumsFrom f taps n x at m)
       → (true ≡ convolvable n taps x at output to m) × (after ≡ convolved f n taps x at output to m)
   unfolding convolvable convolved
   all-there a b c d e = (rw (le-leb n at a, le-leb n (length taps) b, ← c, ← d), rw (le-leb n at a, le-leb n (length taps) b, ← c, ← d) e)

@@ -23,9 +23,9 @@ unfoldable pub scaled : Format → List Float → Float → List Float → ℕ �
 scaled f [] t x k = []
 scaled f (y ∷ sums) t x k = add f y (mul f t (getD x k nan)) ∷ scaled f sums t x (suc k)
 
--- these in a list from a place on
-unfoldable pub placed : List Float → ℕ → List Float → List Float
-placed output to ys = take to output ++ (ys ++ drop (to + length ys) output)
+-- the output with these in its places from `to` on
+unfoldable pub spliced : List Float → ℕ → List Float → List Float
+spliced output to ys = take to output ++ (ys ++ drop (to + length ys) output)
 
 -- whether all places are there: n samples before place `at`, the taps, m samples from `at` on, and m places of the output from `to` on
 unfoldable pub convolvable : ℕ → List Float → List Float → ℕ → List Float → ℕ → ℕ → Bool
@@ -33,4 +33,4 @@ convolvable n taps x at output to m = leb n at && (leb n (length taps) && (leb (
 
 -- the sums in their places, or the output as it was
 unfoldable pub convolved : Format → ℕ → List Float → List Float → ℕ → List Float → ℕ → ℕ → List Float
-convolved f n taps x at output to m = cond (convolvable n taps x at output to m) (placed output to (sumsFrom f taps n x at m)) output
+convolved f n taps x at output to m = cond (convolvable n taps x at output to m) (spliced output to (sumsFrom f taps n x at m)) output

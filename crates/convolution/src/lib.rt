@@ -5,7 +5,7 @@ ghost use Prim.Native.Nat.{_+_, _≤_, _<_};
 ghost use lib.Dec.{leb};
 ghost use lib.ListN.{length};
 ghost use lib.Ieee.{binary64};
-ghost use Rattle.convolution.specs.Convolution.{sumAt, sumsFrom, placed, scaled, convolvable, convolved};
+ghost use Rattle.convolution.specs.Convolution.{sumAt, sumsFrom, spliced, scaled, convolvable, convolved};
 
 // t × x[k + j] is added to sum j.
 fn add_scaled(sums: &mut [f64], t: f64, x: &[f64], k: usize)
@@ -52,7 +52,7 @@ fn one(taps: &[f64], n: usize, x: &[f64], at: usize) -> f64
 // Puts numbers into the output from a place on.
 fn put(output: &mut [f64], to: usize, ys: &[f64])
     requires { ⌜ to + length (now ys) ≤ length (now output) ⌝ }
-    ensures { λ _. ⌜ now (output .exit) ≡ placed (now (output .entry)) to (now (ys .entry)) ⌝ }
+    ensures { λ _. ⌜ now (output .exit) ≡ spliced (now (output .entry)) to (now (ys .entry)) ⌝ }
 {
     let mut j: usize = 0;
     while j < ys.len() {
@@ -72,7 +72,7 @@ fn wide(
     m: usize,
 ) -> usize
     requires { ⌜ (n ≤ at + 1) × (n ≤ length (now taps)) × (at + m ≤ length (now x)) × (to + m ≤ length (now output)) ⌝ }
-    ensures { λ r. ⌜ (r ≤ m) × (now (output .exit) ≡ placed (now (output .entry)) to (sumsFrom binary64 (now (taps .entry)) n (now (x .entry)) at r)) ⌝ }
+    ensures { λ r. ⌜ (r ≤ m) × (now (output .exit) ≡ spliced (now (output .entry)) to (sumsFrom binary64 (now (taps .entry)) n (now (x .entry)) at r)) ⌝ }
 {
     let mut j: usize = 0;
     while 16 <= m - j {
@@ -86,7 +86,7 @@ fn wide(
 // The m outputs from the sample at `at` on, one by one.
 fn narrow(taps: &[f64], n: usize, x: &[f64], at: usize, output: &mut [f64], to: usize, m: usize)
     requires { ⌜ (n ≤ at + 1) × (n ≤ length (now taps)) × (at + m ≤ length (now x)) × (to + m ≤ length (now output)) ⌝ }
-    ensures { λ _. ⌜ now (output .exit) ≡ placed (now (output .entry)) to (sumsFrom binary64 (now (taps .entry)) n (now (x .entry)) at m) ⌝ }
+    ensures { λ _. ⌜ now (output .exit) ≡ spliced (now (output .entry)) to (sumsFrom binary64 (now (taps .entry)) n (now (x .entry)) at m) ⌝ }
 {
     let mut j: usize = 0;
     while j < m {
@@ -98,7 +98,7 @@ fn narrow(taps: &[f64], n: usize, x: &[f64], at: usize, output: &mut [f64], to: 
 // The outputs at places at to at + m - 1 of x, put into the output from place `to` on.
 fn outputs(taps: &[f64], n: usize, x: &[f64], at: usize, output: &mut [f64], to: usize, m: usize)
     requires { ⌜ (n ≤ at + 1) × (n ≤ length (now taps)) × (at + m ≤ length (now x)) × (to + m ≤ length (now output)) ⌝ }
-    ensures { λ _. ⌜ now (output .exit) ≡ placed (now (output .entry)) to (sumsFrom binary64 (now (taps .entry)) n (now (x .entry)) at m) ⌝ }
+    ensures { λ _. ⌜ now (output .exit) ≡ spliced (now (output .entry)) to (sumsFrom binary64 (now (taps .entry)) n (now (x .entry)) at m) ⌝ }
 {
     let j = wide(taps, n, x, at, output, to, m);
     narrow(taps, n, x, at + j, output, to + j, m - j);

@@ -16,7 +16,7 @@ use Rattle.scalar.specs.Constants.{plusZero, half}
 use Rattle.checks.specs.Checks.{validateParams, validateChebyshev, validateBand}
 use Rattle.checks.specs.Lists.{upTo}
 use Rattle.checks.proofs.Laws.{good-params, good-chebyshev, good-band}
-use Rattle.designs.specs.Design.{refusedDesign, accepted, unlessRefused, placed}
+use Rattle.designs.specs.Design.{refusedDesign, accepted, unlessRefused, padded}
 use Rattle.poles.specs.Butterworth.{lpBiquad, hpBiquad, lpFirst, hpFirst}
 use Rattle.bandpass.specs.BandPass.{bandBiquad, bpBiquad, bpPair, bpReal}
 use Rattle.poles.specs.Chebyshev.{cheb1Biquad, cheb2Biquad, chebFirst}
@@ -44,11 +44,11 @@ append-clear : (xs ys : List Biquad) → AllClear xs → AllClear ys → AllClea
 append-clear [] ys a b = b
 append-clear (x ∷ xs) ys a b = (a .0, append-clear xs ys (a .1) b)
 
-placed-clear : (p : ℕ) (ss : List Biquad) → AllClear ss → AllClear (placed p ss)
-unfolding placed
-placed-clear zero ss a = tt
-placed-clear (suc p) [] a = (refl, placed-clear p [] tt)
-placed-clear (suc p) (s ∷ ss) a = (a .0, placed-clear p ss (a .1))
+padded-clear : (p : ℕ) (ss : List Biquad) → AllClear ss → AllClear (padded p ss)
+unfolding padded
+padded-clear zero ss a = tt
+padded-clear (suc p) [] a = (refl, padded-clear p [] tt)
+padded-clear (suc p) (s ∷ ss) a = (a .0, padded-clear p ss (a .1))
 
 upTo-clear : (g : ℕ → Biquad) → ((m : ℕ) → Clear (g m)) → (n : ℕ) → AllClear (upTo g n)
 unfolding upTo
@@ -105,7 +105,7 @@ used n h = go (ltb 0 (n / 2)) refl
 
 prototype-fresh : (p : Prototype) (n : ℕ) → (0 < n) × (n ≤ 8) → FreshCascade (prototypeCascade p n)
 unfolding prototypeCascade
-prototype-fresh p n h = fresh _ (omega (arith, h .1)) (used n (h .0)) (placed-clear 4 _ (upTo-clear (pairOf p n) (pair-clear p n) (n / 2))) (first-clear p n) refl
+prototype-fresh p n h = fresh _ (omega (arith, h .1)) (used n (h .0)) (padded-clear 4 _ (upTo-clear (pairOf p n) (pair-clear p n) (n / 2))) (first-clear p n) refl
 
 pub butterworth-lp-fresh : (n : ℕ) (cutoff rate : Float) → butterworthLp n cutoff rate .refusal ≡ 0 → FreshCascade (butterworthLp n cutoff rate .cascade)
 unfolding butterworthLp
@@ -151,7 +151,7 @@ bpSections-clear n bw w0 = go (eqb (n % 2) 0)
 
 pub band-fresh : (n : ℕ) (wl wh : Float) → 0 < n → n ≤ 4 → FreshCascade (bpCascade n wl wh)
 unfolding bpCascade
-band-fresh n wl wh h l = fresh _ l (rw (lt-ltb 0 n h)) (placed-clear 4 _ (bpSections-clear n (wh ⊖ wl) (wl ⊗ wh))) refl refl
+band-fresh n wl wh h l = fresh _ l (rw (lt-ltb 0 n h)) (padded-clear 4 _ (bpSections-clear n (wh ⊖ wl) (wl ⊗ wh))) refl refl
 
 pub bandpass-fresh : (n : ℕ) (low high rate : Float) → butterworthBp n low high rate .refusal ≡ 0 → FreshCascade (butterworthBp n low high rate .cascade)
 unfolding butterworthBp

@@ -11,7 +11,7 @@ use Rattle.sections.specs.FirstOrder.{blankFirst}
 use Rattle.cascade.specs.Cascade.{CascadeRecord}
 use Rattle.bandpass.specs.BandPass.{BiquadPair, bpPair, bpReal}
 use Rattle.checks.specs.Checks.{validateBand}
-use Rattle.designs.specs.Design.{DesignRecord, unlessRefused, placed}
+use Rattle.designs.specs.Design.{DesignRecord, unlessRefused, padded}
 use Rattle.designs.specs.Butterworth.{warped, angleOf}
 
 -- ---- order N gives N sections: two for each pole pair, one for the real pole of an odd N
@@ -28,7 +28,7 @@ bpSections n bw w0 = cond (eqb (n % 2) 0) (bpUpTo n bw w0 (n / 2)) (bpUpTo n bw 
 -- bandwidth ωh − ωl, and ω0² = ωl × ωh
 unfoldable pub bpCascade : ℕ → Float → Float → CascadeRecord
 bpCascade n wl wh = record {
-  sections = placed 4 (bpSections n (wh ⊖ wl) (wl ⊗ wh));
+  sections = padded 4 (bpSections n (wh ⊖ wl) (wl ⊗ wh));
   count = n;
   first = blankFirst;
   hasFirst = false;

@@ -23,7 +23,7 @@ abbrev pub unlessRefused : ℕ → CascadeRecord → DesignRecord
 unlessRefused n c = cond (eqb n Accepted) (accepted c) (refusedDesign n)
 
 -- sections in the first of p places, and blank ones behind them
-unfoldable pub placed : ℕ → List Biquad → List Biquad
-placed zero ss = []
-placed (suc p) [] = blankBiquad ∷ placed p []
-placed (suc p) (s ∷ ss) = s ∷ placed p ss
+unfoldable pub padded : ℕ → List Biquad → List Biquad
+padded zero ss = []
+padded (suc p) [] = blankBiquad ∷ padded p []
+padded (suc p) (s ∷ ss) = s ∷ padded p ss

@@ -9,7 +9,7 @@ use Rattle.sections.specs.Section.{Biquad}
 use Rattle.sections.specs.FirstOrder.{FirstPart, blankFirst}
 use Rattle.cascade.specs.Cascade.{CascadeRecord}
 use Rattle.checks.specs.Lists.{upTo}
-use Rattle.designs.specs.Design.{placed}
+use Rattle.designs.specs.Design.{padded}
 use Rattle.poles.specs.Butterworth.{lpFirst, hpFirst}
 use Rattle.poles.specs.Chebyshev.{chebFirst}
 use Rattle.designs.specs.Butterworth.{lpPair, hpPair}
@@ -37,7 +37,7 @@ firstOf p n = cond (eqb (n % 2) 0) blankFirst (realPart p)
 
 unfoldable pub prototypeCascade : Prototype → ℕ → CascadeRecord
 prototypeCascade p n = record {
-  sections = placed 4 (upTo (pairOf p n) (n / 2));
+  sections = padded 4 (upTo (pairOf p n) (n / 2));
   count = n / 2;
   first = firstOf p n;
   hasFirst = eqb (n % 2) 1;

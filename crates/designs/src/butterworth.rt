@@ -6,7 +6,7 @@ ghost use Prim.Native.Nat.{_<_, _≤_, _/_};
 ghost use Rattle.sections.specs.View.{sectionView};
 ghost use Rattle.cascade.specs.View.{cascadeView};
 ghost use Rattle.bandpass.specs.View.{pairView};
-ghost use Rattle.designs.specs.Design.{placed};
+ghost use Rattle.designs.specs.Design.{padded};
 ghost use Rattle.designs.specs.Butterworth.{angleOf, warped, lpPair, hpPair};
 ghost use Rattle.designs.specs.LowPass.{butterworthLp, butterworthHp};
 ghost use Rattle.designs.specs.BandPass.{bpPairOf, bpUpTo, bpSections, bpCascade, butterworthBp};
@@ -98,7 +98,7 @@ fn bp_pair(order: usize, m: usize, bw: f64, omega0_sq: f64) -> SectionPair
 // The sections of all pole pairs, two each, and blank ones behind them.
 fn bp_sections_from_pairs(order: usize, bw: f64, omega0_sq: f64) -> [Section; 4]
     requires { ⌜ 0 < order ⌝ ∗ ⌜ order ≤ 4 ⌝ }
-    ensures { λ r. ⌜ map sectionView r ≡ placed 4 (bpUpTo order bw «omega0_sq» (order / 2)) ⌝ }
+    ensures { λ r. ⌜ map sectionView r ≡ padded 4 (bpUpTo order bw «omega0_sq» (order / 2)) ⌝ }
 {
     let mut sections = [Section::blank(); 4];
     let mut m: usize = 0;
@@ -116,7 +116,7 @@ fn bp_sections_from_pairs(order: usize, bw: f64, omega0_sq: f64) -> [Section; 4]
 // Those, and that of the real pole, which an odd order has.
 fn bp_sections(order: usize, bw: f64, omega0_sq: f64) -> [Section; 4]
     requires { ⌜ 0 < order ⌝ ∗ ⌜ order ≤ 4 ⌝ }
-    ensures { λ r. ⌜ map sectionView r ≡ placed 4 (bpSections order bw «omega0_sq») ⌝ }
+    ensures { λ r. ⌜ map sectionView r ≡ padded 4 (bpSections order bw «omega0_sq») ⌝ }
 {
     let mut sections = bp_sections_from_pairs(order, bw, omega0_sq);
     if order % 2 == 0 {

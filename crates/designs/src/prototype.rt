@@ -4,7 +4,7 @@ ghost use mathlib.Core.List.{map};
 ghost use Prim.Native.Nat.{_<_, _≤_, _/_};
 ghost use Rattle.sections.specs.View.{sectionView, firstView};
 ghost use Rattle.checks.specs.Lists.{upTo};
-ghost use Rattle.designs.specs.Design.{placed, accepted};
+ghost use Rattle.designs.specs.Design.{padded, accepted};
 ghost use Rattle.designs.specs.Prototype.{pairOf, realPart, firstOf, prototypeCascade};
 ghost use Rattle.designs.specs.View.{designView};
 use super::butterworth::hp_section;
@@ -60,7 +60,7 @@ fn part_from_real_pole(prototype: Prototype) -> FirstOrder
 // The sections of all pole pairs, from pair 0 on, and blank ones behind them.
 fn sections_from_pairs(prototype: Prototype, order: usize) -> [Section; 4]
     requires { ⌜ 0 < order ⌝ ∗ ⌜ order ≤ 8 ⌝ }
-    ensures { λ r. ⌜ map sectionView r ≡ placed 4 (upTo (pairOf prototype order) (order / 2)) ⌝ }
+    ensures { λ r. ⌜ map sectionView r ≡ padded 4 (upTo (pairOf prototype order) (order / 2)) ⌝ }
 {
     let mut sections = [Section::blank(); 4];
     let mut m: usize = 0;

@@ -5,7 +5,7 @@ ghost use mathlib.Core.List.{[], _∷_, _++_, map};
 ghost use Prim.Native.Nat.{_≤_};
 ghost use lib.Dec.{eqb};
 ghost use lib.ListN.{length, drop};
-ghost use Rattle.convolution.specs.Convolution.{placed};
+ghost use Rattle.convolution.specs.Convolution.{spliced};
 ghost use Rattle.sections.specs.View.{sectionView, firstView};
 ghost use Rattle.cascade.specs.Cascade.{blankCascade};
 ghost use Rattle.cascade.specs.View.{cascadeView};
@@ -101,7 +101,7 @@ fn assembled(numbers: &[f64], counts: &[usize]) -> Cascade
 // A section's numbers, into the places from `at` on.
 fn put_section(s: Section, numbers: &mut [f64], at: usize)
     requires { ⌜ (at ≤ 21) × (length (now numbers) ≡ 32) ⌝ }
-    ensures { λ _. ⌜ now (numbers .exit) ≡ placed (now (numbers .entry)) at (sectionNumbers (sectionView s)) ⌝ }
+    ensures { λ _. ⌜ now (numbers .exit) ≡ spliced (now (numbers .entry)) at (sectionNumbers (sectionView s)) ⌝ }
 {
     numbers[at] = s.b0;
     numbers[at + 1] = s.b1;
@@ -126,7 +126,7 @@ fn put_sections(sections: [Section; 4], numbers: &mut [f64])
 // The first-order part's numbers, behind the sections.
 fn put_first(p: FirstOrder, numbers: &mut [f64])
     requires { ⌜ length (now numbers) ≡ 32 ⌝ }
-    ensures { λ _. ⌜ now (numbers .exit) ≡ placed (now (numbers .entry)) 28 (firstNumbers (firstView p)) ⌝ }
+    ensures { λ _. ⌜ now (numbers .exit) ≡ spliced (now (numbers .entry)) 28 (firstNumbers (firstView p)) ⌝ }
 {
     numbers[28] = p.b0;
     numbers[29] = p.b1;

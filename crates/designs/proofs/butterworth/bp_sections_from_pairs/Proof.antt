@@ -6,7 +6,7 @@ use Prim.Native.Nat.{ℕ, _≤_, _-_, _/_}
 use native.Mathlib.Omega.{arith}
 use borrow.Author.Needs.{needs}
 use Rattle.sections.specs.View.{sectionView}
-use Rattle.designs.specs.Design.{placed}
+use Rattle.designs.specs.Design.{padded}
 use Rattle.bandpass.specs.BandPass.{BiquadPair}
 use Rattle.designs.specs.BandPass.{bpUpTo}
 use Rattle.designs.proofs.Places.{band-none, band-turn}
@@ -14,7 +14,7 @@ use Rattle.designs.proofs.butterworth.bp_sections_from_pairs.Statement.
 use Rattle.designs.proofs.butterworth.bp_sections_from_pairs.Tie as tie
 
 abbrev Inv-loop : tie.InvT-loop
-Inv-loop order bw omega0-sq sections₀ m₀ sections m = (map sectionView sections ≡ placed 4 (bpUpTo order bw omega0-sq m)) × (m ≤ order / 2)
+Inv-loop order bw omega0-sq sections₀ m₀ sections m = (map sectionView sections ≡ padded 4 (bpUpTo order bw omega0-sq m)) × (m ≤ order / 2)
 
 abbrev μ-loop : tie.MeasureT-loop
 μ-loop order bw omega0-sq sections₀ m₀ sections m = order / 2 - m
@@ -72,7 +72,7 @@ loop-again c = let l = c .before .before .before .before .loop in
 returns : tie.Need-returns Inv-loop μ-loop
 returns c = let l = c .before .loop in
     let a = c .before .before .before .args in
-    l .inv .0 ∙ ap (λ (m : ℕ). placed 4 (bpUpTo (a .order) (a .bw) (a .omega0-sq) m)) (omega arith)
+    l .inv .0 ∙ ap (λ (m : ℕ). padded 4 (bpUpTo (a .order) (a .bw) (a .omega0-sq) m)) (omega arith)
 
 pub bp-sections-from-pairs-spec : {M : Type 1} → statement M
 bp-sections-from-pairs-spec =

@@ -7,14 +7,14 @@ use native.Mathlib.Omega.{arith}
 use borrow.Author.Needs.{needs}
 use Rattle.sections.specs.View.{sectionView}
 use Rattle.checks.specs.Lists.{upTo}
-use Rattle.designs.specs.Design.{placed}
+use Rattle.designs.specs.Design.{padded}
 use Rattle.designs.specs.Prototype.{pairOf}
 use Rattle.designs.proofs.Places.{upTo-none, upTo-turn}
 use Rattle.designs.proofs.prototype.sections_from_pairs.Statement.{statement}
 use Rattle.designs.proofs.prototype.sections_from_pairs.Tie as tie
 
 abbrev Inv-loop : tie.InvT-loop
-Inv-loop prototype order sections₀ m₀ sections m = (map sectionView sections ≡ placed 4 (upTo (pairOf prototype order) m)) × (m ≤ order / 2)
+Inv-loop prototype order sections₀ m₀ sections m = (map sectionView sections ≡ padded 4 (upTo (pairOf prototype order) m)) × (m ≤ order / 2)
 
 abbrev μ-loop : tie.MeasureT-loop
 μ-loop prototype order sections₀ m₀ sections m = order / 2 - m
@@ -51,7 +51,7 @@ loop-again c = let l = c .before .before .loop in
 returns : tie.Need-returns Inv-loop μ-loop
 returns c = let l = c .before .loop in
     let a = c .before .before .before .args in
-    l .inv .0 ∙ ap (λ (m : ℕ). placed 4 (upTo (pairOf (a .prototype) (a .order)) m)) (omega arith)
+    l .inv .0 ∙ ap (λ (m : ℕ). padded 4 (upTo (pairOf (a .prototype) (a .order)) m)) (omega arith)
 
 pub sections-from-pairs-spec : {M : Type 1} → statement M
 sections-from-pairs-spec =
