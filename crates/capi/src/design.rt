@@ -1,43 +1,20 @@
 // The designs of both kinds, and ready-made taps, into slices.
 ghost use mathlib.Core.Path.{_≡_};
-ghost use lib.ListN.{length};
 ghost use Rattle.taps.specs.Fir.{fromCoeffs};
 ghost use Rattle.taps.specs.Lent.{capacity};
-ghost use Rattle.fir.specs.View.{madeView};
 ghost use Rattle.designs.specs.LowPass.{butterworthLp, butterworthHp, chebyshev1Lp, chebyshev2Lp};
 ghost use Rattle.designs.specs.BandPass.{butterworthBp};
-ghost use Rattle.designs.specs.View.{designView};
-ghost use Rattle.calls.specs.Calls.{designCall, tapsPlaces, madeCall, firCall, windowOf};
-use designs::Design;
+ghost use Rattle.calls.specs.Calls.{designCall, madeCall, firCall};
 use designs::design_butterworth_bp;
 use designs::design_butterworth_hp;
 use designs::design_butterworth_lp;
 use designs::design_chebyshev1_lp;
 use designs::design_chebyshev2_lp;
-use fir::Made;
 use fir::TapRecord;
-use layout::COUNTS;
-use layout::has_places;
-use layout::put_counts;
-use layout::write;
-use windows::WindowType;
+use handover::hand_out;
+use handover::hand_out_taps;
+use handover::window_of;
 use windows::design_fir_lp;
-
-// A cascade design into slices: 0, or the number that refuses it.
-fn hand_out(d: Design, numbers: &mut [f64], counts: &mut [usize]) -> u8
-    ensures { λ r. ⌜ record { refusal = r; numbers = now (numbers .exit); counts = now (counts .exit) }
-        ≡ designCall (designView d) (now (numbers .entry)) (now (counts .entry)) ⌝ }
-{
-    if !has_places(numbers, counts) {
-        return runs::BAD_CALL;
-    }
-    let refusal = d.refusal;
-    if refusal != 0 {
-        return refusal;
-    }
-    write(d.cascade, numbers, counts);
-    0
-}
 
 // A Butterworth low pass.
 #[no_mangle]
@@ -135,65 +112,6 @@ pub extern "C" fn pulse_design_chebyshev2_lp(
         numbers,
         counts,
     )
-}
-
-// Whether slices have the places of a tap record.
-fn has_tap_places(taps: &[f64], samples: &[f64], counts: &[usize]) -> bool
-    ensures { λ r. ⌜ r ≡ tapsPlaces (now (taps .entry)) (now (samples .entry)) (now (counts .entry)) ⌝ }
-{
-    if taps.len() != TapRecord::MAX_TAPS {
-        return false;
-    }
-    if samples.len() != TapRecord::MAX_TAPS {
-        return false;
-    }
-    counts.len() == COUNTS
-}
-
-// One slice into another of its length.
-fn copy(from: &[f64], to: &mut [f64])
-    requires { ⌜ length (now from) ≡ length (now to) ⌝ }
-    ensures { λ _. ⌜ now (to .exit) ≡ now (from .entry) ⌝ }
-{
-    let mut i: usize = 0;
-    while i < from.len() {
-        to[i] = from[i];
-        i += 1;
-    }
-}
-
-// A tap record into slices: 0, or the number that refuses it.
-fn hand_out_taps(m: Made, taps: &mut [f64], samples: &mut [f64], counts: &mut [usize]) -> u8
-    ensures { λ r. ⌜ record { refusal = r; taps = now (taps .exit); samples = now (samples .exit); counts = now (counts .exit) }
-        ≡ madeCall (now (taps .entry)) (now (samples .entry)) (now (counts .entry)) (madeView m) ⌝ }
-{
-    if !has_tap_places(taps, samples, counts) {
-        return runs::BAD_CALL;
-    }
-    let refusal = m.refusal;
-    if refusal != 0 {
-        return refusal;
-    }
-    let f = m.filter;
-    let made = f.taps;
-    let zeros = f.samples;
-    copy(&made, taps);
-    copy(&zeros, samples);
-    let window = f.window;
-    put_counts(counts, f.length, f.held, window as usize);
-    0
-}
-
-// The window of a code; above 2 it is Blackman's.
-fn window_of(code: usize) -> WindowType
-    ensures { λ r. ⌜ r ≡ windowOf code ⌝ }
-{
-    match code {
-        0 => WindowType::Rectangular,
-        1 => WindowType::Hamming,
-        2 => WindowType::Hanning,
-        _ => WindowType::Blackman,
-    }
 }
 
 // A FIR low pass, its cutoff a share of the rate.

@@ -1,11 +1,11 @@
--- `capi::design::copy` meets its contract. Assumes nothing.
+-- `handover::copy` meets its contract. Assumes nothing.
 use Prim.Native.Nat.{_≤_, _<_, _-_}
 use mathlib.Core.Path.{refl}
 use native.Mathlib.Omega.{arith}
 use lib.ListN.{length}
 use Rattle.taps.proofs.Laws.{Copying, copy-start, copy-turn, copy-done}
-use Rattle.capi.proofs.design.copy.Statement.{statement}
-use Rattle.capi.proofs.design.copy.Tie as tie
+use Rattle.handover.proofs.copy.Statement.{statement}
+use Rattle.handover.proofs.copy.Tie as tie
 
 abbrev Inv-loop : tie.InvT-loop
 Inv-loop from to₀ i₀ to i = (i ≤ length from) × Copying from to₀ to i

@@ -1,4 +1,4 @@
--- `capi::design::hand_out` meets its contract. Assumes nothing.
+-- `handover::hand_out` meets its contract. Assumes nothing.
 use mathlib.Core.Path.{_≡_, sym, _∙_}
 use mathlib.Core.Bool.{true}
 use borrow.Author.Tests.{not-true, not-false}
@@ -6,8 +6,8 @@ use Rattle.designs.specs.View.{designView}
 use Rattle.layout.specs.Layout.{cascadePlaces}
 use Rattle.calls.proofs.Laws.{numbers-are, counts-are, design-unfit, design-refused, design-accepted}
 use borrow.Author.Needs.{needs}
-use Rattle.capi.proofs.design.hand_out.Statement.{statement}
-use Rattle.capi.proofs.design.hand_out.Tie as tie
+use Rattle.handover.proofs.hand_out.Statement.{statement}
+use Rattle.handover.proofs.hand_out.Tie as tie
 
 places : (e : tie.Else1) → cascadePlaces (e .before .before .before .before .before .before .args .numbers .now) (e .before .before .before .before .before .before .args .counts .now) ≡ true
 places e = sym (e .before .has-places .ensures) ∙ not-false _ (e .if1 .left)

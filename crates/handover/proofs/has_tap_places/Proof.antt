@@ -1,9 +1,9 @@
--- `capi::design::has_tap_places` meets its contract. Assumes nothing.
+-- `handover::has_tap_places` meets its contract. Assumes nothing.
 use borrow.Author.Tests.{eq-eqb, ne-eqb}
 use Rattle.calls.specs.Calls.{tapsPlaces}
 use Rattle.calls.proofs.Laws.{taps-last}
-use Rattle.capi.proofs.design.has_tap_places.Statement.{statement}
-use Rattle.capi.proofs.design.has_tap_places.Tie as tie
+use Rattle.handover.proofs.has_tap_places.Statement.{statement}
+use Rattle.handover.proofs.has_tap_places.Tie as tie
 
 returns : tie.Need-returns
 unfolding tapsPlaces

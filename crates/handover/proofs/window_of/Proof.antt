@@ -1,7 +1,7 @@
--- `capi::design::window_of` meets its contract. Assumes nothing.
+-- `handover::window_of` meets its contract. Assumes nothing.
 use borrow.Author.Tests.{ne-eqb}
-use Rattle.capi.proofs.design.window_of.Statement.{statement}
-use Rattle.capi.proofs.design.window_of.Tie as tie
+use Rattle.handover.proofs.window_of.Statement.{statement}
+use Rattle.handover.proofs.window_of.Tie as tie
 
 returns : tie.Need-returns
 returns c = rw (c .match .keys1)

@@ -1,4 +1,4 @@
--- `capi::design::hand_out_taps` meets its contract. Assumes nothing.
+-- `handover::hand_out_taps` meets its contract. Assumes nothing.
 use mathlib.Core.Path.{_≡_, sym, _∙_}
 use mathlib.Core.Bool.{true}
 use mathlib.Core.List.{_∷_, []}
@@ -12,8 +12,8 @@ use Rattle.calls.specs.Kinds.{tapsCounts}
 use Rattle.calls.specs.Calls.{tapsPlaces}
 use Rattle.calls.proofs.Laws.{taps-lengths, made-unfit, made-refused, made-accepted}
 use borrow.Author.Needs.{needs}
-use Rattle.capi.proofs.design.hand_out_taps.Statement.{statement}
-use Rattle.capi.proofs.design.hand_out_taps.Tie as tie
+use Rattle.handover.proofs.hand_out_taps.Statement.{statement}
+use Rattle.handover.proofs.hand_out_taps.Tie as tie
 
 places : (e : tie.Else1) → tapsPlaces (e .before .before .before .before .before .before .before .before .args .taps .now) (e .before .before .before .before .before .before .before .before .args .samples .now) (e .before .before .before .before .before .before .before .before .args .counts .now) ≡ true
 places e = sym (e .before .has-tap-places .ensures) ∙ not-false _ (e .if1 .left)
