@@ -1,73 +1,21 @@
 // The answer to a line.
-use super::cascades::CascadeAnswer;
+use super::answered::Answered;
+use super::answered::answer_fault;
+use super::answered::end_answer;
 use super::cascades::answer_cascade;
 use super::fault::Fault;
-use super::filters::FirAnswer;
-use super::filters::answer_filter;
+use super::filters::answer_fir;
+use super::filters::answer_taps;
 use super::functions::answer_function;
 use super::line::bytes_of;
 use super::line::rest_of;
-use super::put::end_line;
-use super::put::put_fault;
+use super::records::Records;
+use super::running::answer_block;
+use super::running::answer_reset;
+use super::running::answer_step;
 use super::words::Request;
 use super::words::request_of;
-use cascade::Cascade;
-use fir::TapRecord;
 use protocol::next_token;
-
-// The current records.
-pub(crate) struct Records {
-    pub(crate) cascade: Cascade,
-    pub(crate) filter: TapRecord,
-}
-
-impl Records {
-    pub(crate) fn blank() -> Self {
-        Records {
-            cascade: Cascade::blank(),
-            filter: TapRecord::blank(),
-        }
-    }
-}
-
-// The place after an answer, and the records after it.
-pub(crate) struct Answered {
-    pub(crate) at: usize,
-    pub(crate) records: Records,
-}
-
-pub(crate) fn answer_fault(
-    fault: Fault,
-    output: &mut [u8],
-    at: usize,
-    records: Records,
-) -> Answered {
-    let at = put_fault(output, at, fault);
-    Answered {
-        at: end_line(output, at),
-        records,
-    }
-}
-
-fn with_cascade(a: CascadeAnswer, output: &mut [u8], records: Records) -> Answered {
-    let mut records = records;
-    let cascade = a.cascade;
-    records.cascade = cascade;
-    Answered {
-        at: end_line(output, a.at),
-        records,
-    }
-}
-
-fn with_filter(a: FirAnswer, output: &mut [u8], records: Records) -> Answered {
-    let mut records = records;
-    let filter = a.filter;
-    records.filter = filter;
-    Answered {
-        at: end_line(output, a.at),
-        records,
-    }
-}
 
 fn answer_request(
     request: Request,
@@ -77,22 +25,15 @@ fn answer_request(
     records: Records,
 ) -> Answered {
     match request {
-        Request::Cascade(r) => {
-            let cascade = records.cascade;
-            let a = answer_cascade(r, rest, output, at, cascade);
-            with_cascade(a, output, records)
-        }
-        Request::Fir(r) => {
-            let filter = records.filter;
-            let a = answer_filter(r, rest, output, at, filter);
-            with_filter(a, output, records)
-        }
+        Request::Step(kind) => answer_step(kind, rest, output, at, records),
+        Request::Block(kind) => answer_block(kind, rest, output, at, records),
+        Request::Reset(kind) => answer_reset(kind, rest, output, at, records),
+        Request::Cascade(kind) => answer_cascade(kind, rest, output, at, records),
+        Request::Fir => answer_fir(rest, output, at, records),
+        Request::Taps => answer_taps(rest, output, at, records),
         Request::Function(f) => {
             let at = answer_function(f, rest, output, at);
-            Answered {
-                at: end_line(output, at),
-                records,
-            }
+            end_answer(output, at, records)
         }
         Request::Unknown => answer_fault(Fault::UnknownRequest, output, at, records),
     }

@@ -1,19 +1,14 @@
-// Requests of the current cascade: its designs, steps, blocks and resets.
+// Designs of the current cascade.
 ghost use Prim.Native.Nat.{_≤_};
-use super::blocks::places_before;
+use super::answered::Answered;
+use super::answered::answer_fault;
+use super::answered::end_answer;
 use super::fault::Fault;
-use super::parameters::MOST;
 use super::parameters::OrderAndFloats;
-use super::parameters::block_lengths;
-use super::parameters::only_float;
 use super::parameters::order_and_floats;
-use super::parameters::rest_fault;
-use super::put::put_answer;
-use super::put::put_block;
-use super::put::put_fault;
 use super::put::put_next;
 use super::put::put_refused;
-use super::put::put_reset;
+use super::records::Records;
 use cascade::Cascade;
 use designs::Design;
 use protocol::put_bytes;
@@ -26,19 +21,6 @@ pub(crate) enum CascadeKind {
     BandPass,
     Chebyshev1,
     Chebyshev2,
-}
-
-pub(crate) enum CascadeRequest {
-    Design(CascadeKind),
-    Step,
-    Block,
-    Reset,
-}
-
-// The place after an answer, and the cascade after the request.
-pub(crate) struct CascadeAnswer {
-    pub(crate) at: usize,
-    pub(crate) cascade: Cascade,
 }
 
 fn put_section(output: &mut [u8], at: usize, s: Section) -> usize {
@@ -103,107 +85,29 @@ fn design(kind: CascadeKind, p: OrderAndFloats) -> Design {
     }
 }
 
-fn answer_fault(fault: Fault, output: &mut [u8], at: usize, cascade: Cascade) -> CascadeAnswer {
-    CascadeAnswer {
-        at: put_fault(output, at, fault),
-        cascade,
+// What a design answers.
+fn put_design(output: &mut [u8], at: usize, d: Design) -> usize {
+    if d.refusal != 0 {
+        return put_refused(output, at, d.refusal);
     }
+    let designed = d.cascade;
+    put_cascade(output, at, designed)
 }
 
-fn answer_design(
+pub(crate) fn answer_cascade(
     kind: CascadeKind,
     rest: &[u8],
     output: &mut [u8],
     at: usize,
-    cascade: Cascade,
-) -> CascadeAnswer {
+    records: Records,
+) -> Answered {
     let p = order_and_floats(rest, floats_of(kind));
     let fault = p.fault;
     let Fault::None = fault else {
-        return answer_fault(fault, output, at, cascade);
+        return answer_fault(fault, output, at, records);
     };
     let d = design(kind, p);
     let designed = d.cascade;
-    if d.refusal != 0 {
-        return CascadeAnswer {
-            at: put_refused(output, at, d.refusal),
-            cascade: designed,
-        };
-    }
-    CascadeAnswer {
-        at: put_cascade(output, at, designed),
-        cascade: designed,
-    }
-}
-
-fn answer_step(rest: &[u8], output: &mut [u8], at: usize, cascade: Cascade) -> CascadeAnswer {
-    let p = only_float(rest);
-    let fault = p.fault;
-    let Fault::None = fault else {
-        return answer_fault(fault, output, at, cascade);
-    };
-    let u = cascade.update(p.x);
-    let answer = u.answer;
-    let after = u.cascade;
-    CascadeAnswer {
-        at: put_answer(output, at, answer),
-        cascade: after,
-    }
-}
-
-// The block of these samples, into these places.
-fn answer_samples(
-    samples: &[f64],
-    places: &mut [f64],
-    output: &mut [u8],
-    at: usize,
-    cascade: Cascade,
-) -> CascadeAnswer {
-    let b = cascade.block(samples, places);
-    let after = b.cascade;
-    CascadeAnswer {
-        at: put_block(output, at, b.refusal, b.clouded, places),
-        cascade: after,
-    }
-}
-
-fn answer_block(rest: &[u8], output: &mut [u8], at: usize, cascade: Cascade) -> CascadeAnswer {
-    let mut input = [0.0; MOST];
-    let b = block_lengths(rest, &mut input);
-    let fault = b.fault;
-    let Fault::None = fault else {
-        return answer_fault(fault, output, at, cascade);
-    };
-    let m = b.samples;
-    let l = b.places;
-    let mut places = places_before();
-    answer_samples(&input[..m], &mut places[..l], output, at, cascade)
-}
-
-fn answer_reset(rest: &[u8], output: &mut [u8], at: usize, cascade: Cascade) -> CascadeAnswer {
-    let fault = rest_fault(rest);
-    let Fault::None = fault else {
-        return answer_fault(fault, output, at, cascade);
-    };
-    let r = cascade.reset();
-    let after = r.cascade;
-    CascadeAnswer {
-        at: put_reset(output, at, r.refusal),
-        cascade: after,
-    }
-}
-
-pub(crate) fn answer_cascade(
-    request: CascadeRequest,
-    rest: &[u8],
-    output: &mut [u8],
-    at: usize,
-    cascade: Cascade,
-) -> CascadeAnswer {
-    match request {
-        CascadeRequest::Design(kind) => answer_design(kind, rest, output, at, cascade),
-        CascadeRequest::Step => answer_step(rest, output, at, cascade),
-        CascadeRequest::Block => answer_block(rest, output, at, cascade),
-        CascadeRequest::Reset => answer_reset(rest, output, at, cascade),
-    }
+    let at = put_design(output, at, d);
+    end_answer(output, at, records.with_cascade(designed))
 }

@@ -4,7 +4,7 @@ ghost use Prim.Native.Nat.{_≤_};
 ghost use lib.ListN.{length};
 
 mod answer;
-mod blocks;
+mod answered;
 mod cascades;
 mod fault;
 mod filters;
@@ -12,16 +12,18 @@ mod functions;
 mod line;
 mod parameters;
 mod put;
+mod records;
+mod running;
 mod words;
 
-use answer::Answered;
-use answer::Records;
-use answer::answer_fault;
 use answer::answer_line;
+use answered::Answered;
+use answered::answer_fault;
 use fault::Fault;
 use libc::STDERR_FILENO;
 use libc::STDIN_FILENO;
 use libc::STDOUT_FILENO;
+use records::Records;
 
 // The longest line that is answered, without its end.
 const LONGEST_LINE: usize = 8192;

@@ -1,15 +1,19 @@
 // The words that name requests and windows.
 use super::cascades::CascadeKind;
-use super::cascades::CascadeRequest;
-use super::filters::FirRequest;
 use super::functions::Function;
+use super::records::RecordKind;
 use protocol::same_bytes;
 use windows::WindowType;
 
+// The designs are Cascade and Fir; Taps is ready-made taps.
 pub(crate) enum Request {
+    Step(RecordKind),
+    Block(RecordKind),
+    Reset(RecordKind),
+    Cascade(CascadeKind),
+    Fir,
+    Taps,
     Function(Function),
-    Cascade(CascadeRequest),
-    Fir(FirRequest),
     Unknown,
 }
 
@@ -21,47 +25,47 @@ pub(crate) enum WindowName {
 
 pub(crate) fn request_of(word: &[u8]) -> Request {
     if same_bytes(word, b"cstep") {
-        return Request::Cascade(CascadeRequest::Step);
+        return Request::Step(RecordKind::Cascade);
     }
     if same_bytes(word, b"fstep") {
-        return Request::Fir(FirRequest::Step);
+        return Request::Step(RecordKind::Filter);
     }
     if same_bytes(word, b"cblock") {
-        return Request::Cascade(CascadeRequest::Block);
+        return Request::Block(RecordKind::Cascade);
     }
     if same_bytes(word, b"fblock") {
-        return Request::Fir(FirRequest::Block);
+        return Request::Block(RecordKind::Filter);
     }
     if same_bytes(word, b"creset") {
-        return Request::Cascade(CascadeRequest::Reset);
+        return Request::Reset(RecordKind::Cascade);
     }
     if same_bytes(word, b"freset") {
-        return Request::Fir(FirRequest::Reset);
+        return Request::Reset(RecordKind::Filter);
     }
     if same_bytes(word, b"fir") {
-        return Request::Fir(FirRequest::Design);
+        return Request::Fir;
     }
     if same_bytes(word, b"taps") {
-        return Request::Fir(FirRequest::Taps);
+        return Request::Taps;
     }
     design_of(word)
 }
 
 fn design_of(word: &[u8]) -> Request {
     if same_bytes(word, b"lowpass") {
-        return Request::Cascade(CascadeRequest::Design(CascadeKind::LowPass));
+        return Request::Cascade(CascadeKind::LowPass);
     }
     if same_bytes(word, b"highpass") {
-        return Request::Cascade(CascadeRequest::Design(CascadeKind::HighPass));
+        return Request::Cascade(CascadeKind::HighPass);
     }
     if same_bytes(word, b"bandpass") {
-        return Request::Cascade(CascadeRequest::Design(CascadeKind::BandPass));
+        return Request::Cascade(CascadeKind::BandPass);
     }
     if same_bytes(word, b"chebyshev1") {
-        return Request::Cascade(CascadeRequest::Design(CascadeKind::Chebyshev1));
+        return Request::Cascade(CascadeKind::Chebyshev1);
     }
     if same_bytes(word, b"chebyshev2") {
-        return Request::Cascade(CascadeRequest::Design(CascadeKind::Chebyshev2));
+        return Request::Cascade(CascadeKind::Chebyshev2);
     }
     function_of(word)
 }

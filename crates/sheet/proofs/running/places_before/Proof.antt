@@ -1,8 +1,8 @@
--- `sheet::blocks::places_before` meets its contract. The loop's invariant: its counter is at most 256. Assumes nothing.
+-- `sheet::running::places_before` meets its contract. The loop's invariant: its counter is at most 256. Assumes nothing.
 use Prim.Native.Nat.{_≤_, _-_}
 use borrow.Author.Needs.{needs}
-use Rattle.sheet.proofs.blocks.places_before.Statement.{statement}
-use Rattle.sheet.proofs.blocks.places_before.Tie as tie
+use Rattle.sheet.proofs.running.places_before.Statement.{statement}
+use Rattle.sheet.proofs.running.places_before.Tie as tie
 
 abbrev Inv-loop : tie.InvT-loop
 Inv-loop places₀ x₀ i₀ places x i = i ≤ 256

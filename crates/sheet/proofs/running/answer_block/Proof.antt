@@ -1,10 +1,10 @@
--- `sheet::filters::answer_block` meets its contract. The parts that are lent are as long as `block_lengths` says. Assumes nothing.
+-- `sheet::running::answer_block` meets its contract. The parts that are lent are as long as `block_lengths` says. Assumes nothing.
 use mathlib.Core.Path.{sym}
 use lib.Seq.{length-take-le}
 use native.Mathlib.Omega.{arith}
 use borrow.Author.Needs.{needs}
-use Rattle.sheet.proofs.filters.answer_block.Statement.{statement}
-use Rattle.sheet.proofs.filters.answer_block.Tie as tie
+use Rattle.sheet.proofs.running.answer_block.Statement.{statement}
+use Rattle.sheet.proofs.running.answer_block.Tie as tie
 
 slice-aggregate-block-lengths : tie.Need-slice-aggregate-block-lengths
 slice-aggregate-block-lengths c = search needs
