@@ -1,17 +1,17 @@
 -- Before every turn a line is four sections, as they are one sample after the other, that have taken three samples more, each as far as it goes: so what comes out of it is
 -- what they answer. Assumes nothing.
-use mathlib.Core.Path.{_≡_, refl, sym, ap, _∙_}
+use mathlib.Core.Path.{_≡_, refl, ap, _∙_}
 use mathlib.Core.Bool.{false, true}
 use mathlib.Core.List.{List}
 use Prim.Native.Nat.{ℕ, _+_, _<_, _≤_}
 use native.Mathlib.Omega.{arith}
 use lib.ListN.{length, getD, set}
 use lib.Ieee.{Float, Format, nan}
-use borrow.Author.Tests.{le-leb, lt-leb, le-ltb}
+use borrow.Author.Tests.{le-leb, le-ltb}
 use Rattle.runs.specs.Runs.{Block, block}
 use Rattle.runs.proofs.Laws.{Running, run-start, run-turn, run-done}
 use Rattle.sections.specs.Section.{Biquad, sectionOut, sectionNext}
-use Rattle.skew.specs.Skew.{FourRecord, LineRecord, DrainedRecord, RanRecord, fourOut, fourNext, four, filled, lineOut, advanced, drained, ran}
+use Rattle.skew.specs.Skew.{FourRecord, LineRecord, DrainedRecord, fourOut, fourNext, four, filled, lineOut, advanced, drained, ran}
 
 -- what a section makes of a number, and of itself
 pub record Went (f : Format) (s : Biquad) (x y : Float) (t : Biquad) : Type 0 where

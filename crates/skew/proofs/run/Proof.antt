@@ -1,5 +1,5 @@
 -- `skew::run` meets its contract: a turn of its loop is a turn of `Behind`. Assumes nothing.
-use Prim.Native.Nat.{_+_, _-_, _<_, _≤_}
+use Prim.Native.Nat.{_+_, _-_, _*_, _^_, _<_, _≤_}
 use mathlib.Core.Path.{_≡_, refl}
 use native.Mathlib.Omega.{arith}
 use lib.ListN.{length, getD, length-set}
@@ -13,7 +13,7 @@ use Rattle.skew.proofs.run.Statement.{statement}
 use Rattle.skew.proofs.run.Tie as tie
 
 abbrev Inv-loop : tie.InvT-loop
-Inv-loop input output₀ n end line₀ i₀ output line i = (i ≤ end) × (length output ≡ length output₀)
+Inv-loop input output₀ n end line₀ i₀ output line i = (i ≤ end) × (length output ≡ length output₀) × (length input ≤ length output₀) × (length input * 8 < 2 ^ 63)
     × ((c : FourRecord) → lineView line₀ ≡ filled binary64 c (getD input 0 nan) (getD input 1 nan) (getD input 2 nan) → Behind binary64 c input output₀ (lineView line) output i)
 
 abbrev μ-loop : tie.MeasureT-loop
@@ -40,13 +40,14 @@ fill-requires : tie.Need-fill-requires Inv-loop μ-loop
 fill-requires c κs = search needs
 
 loop-holds : tie.Need-loop-holds Inv-loop μ-loop
-loop-holds c = (omega arith, refl, λ k e. line-start binary64 k _ _ (c .before .before .before .before .if2 .left) e)
+loop-holds c = let e = c .before .before .before .before in
+    (omega arith, refl, e .if2 .left, e .before .before .before .before .good .1 .0 .1, λ k h. line-start binary64 k _ _ (e .if2 .left) h)
 
 add-advance : tie.Need-add-advance Inv-loop μ-loop
-add-advance c = omega (arith, (c .before .before .before .before .before .before .before .before .before .before) .good .1 .0 .0)
+add-advance c = omega arith
 
 mul-advance : tie.Need-mul-advance Inv-loop μ-loop
-mul-advance c = omega (arith, (c .before .before .before .before .before .before .before .before .before .before) .good .1 .0 .1)
+mul-advance c = omega arith
 
 shared-slice-read-advance : tie.Need-shared-slice-read-advance Inv-loop μ-loop
 shared-slice-read-advance c = search needs
@@ -55,13 +56,13 @@ advance-requires : tie.Need-advance-requires Inv-loop μ-loop
 advance-requires c κs = search needs
 
 mul-output : tie.Need-mul-output Inv-loop μ-loop
-mul-output c = omega (arith, (c .before .before .before .before .before .before .before .before .before .before .before .before) .good .1 .0 .1)
+mul-output c = omega arith
 
 slice-write-output : tie.Need-slice-write-output Inv-loop μ-loop
-slice-write-output c = omega (arith, (c .before .before .before .before .before .before .before .before) .if2 .left)
+slice-write-output c = omega arith
 
 add-i : tie.Need-add-i Inv-loop μ-loop
-add-i c = omega (arith, (c .before .before .before .before .before .before .before .before .before .before .before .before .before) .good .1 .0 .0)
+add-i c = omega arith
 
 loop-less : tie.Need-loop-less Inv-loop μ-loop
 loop-less c = search needs
@@ -69,37 +70,37 @@ loop-less c = search needs
 loop-again : tie.Need-loop-again Inv-loop μ-loop
 loop-again c = let l = c .before .before .before .before in
     let a = c .before .advance .ensures in
-    (omega arith, rw length-set (l .loop .inv .1), λ k e. line-turn binary64 k _ _ (omega arith) (a .0) (a .1) (l .loop .inv .2 k e))
+    (omega arith, rw length-set (l .loop .inv .1), l .loop .inv .2, l .loop .inv .3, λ k e. line-turn binary64 k _ _ (omega arith) (a .0) (a .1) (l .loop .inv .4 k e))
 
 drain-requires : tie.Need-drain-requires Inv-loop μ-loop
 drain-requires c κs = search needs
 
 mul-output-2 : tie.Need-mul-output-2 Inv-loop μ-loop
-mul-output-2 c = omega (arith, (c .before .before .before .before .before .before .before .before .before .before .before) .good .1 .0 .1)
+mul-output-2 c = omega arith
 
 slice-write-output-2 : tie.Need-slice-write-output-2 Inv-loop μ-loop
-slice-write-output-2 c = omega (arith, (c .before .before .before .before .before .before .before) .if2 .left)
+slice-write-output-2 c = omega arith
 
 add-output : tie.Need-add-output Inv-loop μ-loop
-add-output c = omega (arith, (c .before .before .before .before .before .before .before .before .before .before .before) .good .1 .0 .0)
+add-output c = omega arith
 
 mul-output-3 : tie.Need-mul-output-3 Inv-loop μ-loop
-mul-output-3 c = omega (arith, (c .before .before .before .before .before .before .before .before .before .before .before) .good .1 .0 .1)
+mul-output-3 c = omega arith
 
 slice-write-output-3 : tie.Need-slice-write-output-3 Inv-loop μ-loop
 slice-write-output-3 c = let l = c .before .before in
-    let h : l .loop .i + 1 < length (l .loop .output) = omega (arith, l .before .before .before .before .before .if2 .left) in
+    let h : l .loop .i + 1 < length (l .loop .output) = omega arith in
     simp length-set h
 
 add-output-2 : tie.Need-add-output-2 Inv-loop μ-loop
-add-output-2 c = omega (arith, (c .before .before .before .before .before .before .before .before .before .before .before) .good .1 .0 .0)
+add-output-2 c = omega arith
 
 mul-output-4 : tie.Need-mul-output-4 Inv-loop μ-loop
-mul-output-4 c = omega (arith, (c .before .before .before .before .before .before .before .before .before .before .before) .good .1 .0 .1)
+mul-output-4 c = omega arith
 
 slice-write-output-4 : tie.Need-slice-write-output-4 Inv-loop μ-loop
 slice-write-output-4 c = let l = c .before .before in
-    let h : l .loop .i + 2 < length (l .loop .output) = omega (arith, l .before .before .before .before .before .if2 .left) in
+    let h : l .loop .i + 2 < length (l .loop .output) = omega arith in
     simp length-set h
 
 same-length : tie.Need-same-length Inv-loop μ-loop
@@ -107,8 +108,7 @@ same-length c = rw (length-set, length-set, length-set) (c .before .before .befo
 
 returns-3 : tie.Need-returns-3 Inv-loop μ-loop
 returns-3 c = let l = c .before .before .before in
-    let s = l .before .before .before .before in
-    line-done binary64 _ _ _ (s .before .if2 .left) (omega arith) (c .before .drain .ensures) (l .loop .inv .2 _ (l .before .fill .ensures))
+    line-done binary64 _ _ _ (l .loop .inv .2) (omega arith) (c .before .drain .ensures) (l .loop .inv .4 _ (l .before .fill .ensures))
 
 pub run-spec : {M : Type 1} → statement M
 run-spec =
