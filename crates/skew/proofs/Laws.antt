@@ -29,6 +29,11 @@ module _ (f : Format) where
   unfolding filled
   filled-is p0 p1 p2 q0 q1 r = rw (p2 .out, p2 .next, q1 .out, q1 .next, r .out, r .next, p1 .out, p1 .next, q0 .out, q0 .next, p0 .out, p0 .next)
 
+  pub advanced-is : {s0 s1 s2 s3 a b c d : Biquad} {x y0 y1 y2 u v w z : Float} → Went f s0 x u a → Went f s1 y0 v b → Went f s2 y1 w c → Went f s3 y2 z d
+      → record { four = record { s0 = a; s1 = b; s2 = c; s3 = d }; y0 = u; y1 = v; y2 = w } ≡ advanced f (record { four = record { s0 = s0; s1 = s1; s2 = s2; s3 = s3 }; y0 = y0; y1 = y1; y2 = y2 }) x
+  unfolding advanced
+  advanced-is p q r s = rw (p .out, p .next, q .out, q .next, r .out, r .next, s .next)
+
   pub drained-is : {s0 s1 s2 s3 b c0 c1 d0 d1 d2 : Biquad} {y0 y1 y2 u v0 v1 w0 w1 w2 : Float} → Went f s1 y0 u b → Went f s2 y1 v0 c0 → Went f c0 u v1 c1 → Went f s3 y2 w0 d0 → Went f d0 v0 w1 d1
       → Went f d1 v1 w2 d2
       → record { four = record { s0 = s0; s1 = b; s2 = c1; s3 = d2 }; y0 = w0; y1 = w1; y2 = w2 } ≡ drained f (record { four = record { s0 = s0; s1 = s1; s2 = s2; s3 = s3 }; y0 = y0; y1 = y1; y2 = y2 })

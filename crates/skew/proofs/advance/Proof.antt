@@ -1,6 +1,8 @@
 -- `skew::advance` meets its contract. Assumes nothing.
 use borrow.Author.Needs.{needs}
-use Rattle.skew.specs.Skew.{lineOut, advanced}
+use lib.Ieee.{binary64}
+use Rattle.skew.specs.Skew.{lineOut}
+use Rattle.skew.proofs.Laws.{went, advanced-is}
 use Rattle.skew.proofs.advance.Statement.{statement}
 use Rattle.skew.proofs.advance.Tie as tie
 
@@ -17,8 +19,10 @@ process-requires-4 : tie.Need-process-requires-4
 process-requires-4 c κs = search needs
 
 returns : tie.Need-returns
-unfolding lineOut advanced
-returns c = (cc, cc)
+unfolding lineOut
+returns c = let d = c .before .before .before .before in
+    let e = d .process4 .ensures in
+    (e .0, advanced-is binary64 (went binary64 (d .before .before .before .process .ensures)) (went binary64 (d .before .before .process2 .ensures)) (went binary64 (d .before .process3 .ensures)) (went binary64 e))
 
 pub advance-spec : {M : Type 1} → statement M
 advance-spec =
