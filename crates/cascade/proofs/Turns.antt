@@ -1,5 +1,5 @@
 -- Four turns, each through its section where that is used, are a pass through the first n sections. Assumes nothing.
-use mathlib.Core.Path.{_≡_}
+use mathlib.Core.Path.{_≡_, refl}
 use mathlib.Core.Bool.{Bool, cond}
 use mathlib.Core.List.{List, [], _∷_, map}
 use Prim.Native.Nat.{ℕ, zero, suc, _≤_}
@@ -24,15 +24,19 @@ passed f a b c d a′ b′ c′ d′ (suc (suc (suc zero))) x y₀ y₁ y₂ y�
 passed f a b c d a′ b′ c′ d′ (suc (suc (suc (suc zero)))) x y₀ y₁ y₂ y₃ h p q r s = (rw (s .out, r .out, q .out, p .out), rw (s .next, r .next, q .next, p .next, r .out, q .out, p .out))
 passed f a b c d a′ b′ c′ d′ (suc (suc (suc (suc (suc n))))) x y₀ y₁ y₂ y₃ h p q r s = absurd (omega arith)
 
+-- a list of four, place by place
+pub four-places : {A B : Type 0} (view : A → B) (ss : List A) (u : A) → length ss ≡ 4 → view (getD ss 0 u) ∷ view (getD ss 1 u) ∷ view (getD ss 2 u) ∷ view (getD ss 3 u) ∷ [] ≡ map view ss
+four-places view [] u l = absurd (omega arith)
+four-places view (s₀ ∷ []) u l = absurd (omega arith)
+four-places view (s₀ ∷ s₁ ∷ []) u l = absurd (omega arith)
+four-places view (s₀ ∷ s₁ ∷ s₂ ∷ []) u l = absurd (omega arith)
+four-places view (s₀ ∷ s₁ ∷ s₂ ∷ s₃ ∷ []) u l = refl
+four-places view (s₀ ∷ s₁ ∷ s₂ ∷ s₃ ∷ s₄ ∷ ss) u l = absurd (omega arith)
+
 -- whatever record the code has for a section
 pub four-turns : (f : Format) {A : Type 0} (view : A → Biquad) (ss : List A) (u : A) (n : ℕ) (x : Float) {y₀ y₁ y₂ y₃ : Float} {a b c d : A} → length ss ≡ 4 → n ≤ 4
     → Turned f (ltb 0 n) (view (getD ss 0 u)) x y₀ (view a) → Turned f (ltb 1 n) (view (getD ss 1 u)) y₀ y₁ (view b) → Turned f (ltb 2 n) (view (getD ss 2 u)) y₁ y₂ (view c)
     → Turned f (ltb 3 n) (view (getD ss 3 u)) y₂ y₃ (view d)
     → (y₃ ≡ sectionsOut f n (map view ss) x) × (map view (a ∷ b ∷ c ∷ d ∷ []) ≡ sectionsNext f n (map view ss) x)
-four-turns f view [] u n x l h p q r s = absurd (omega arith)
-four-turns f view (s₀ ∷ []) u n x l h p q r s = absurd (omega arith)
-four-turns f view (s₀ ∷ s₁ ∷ []) u n x l h p q r s = absurd (omega arith)
-four-turns f view (s₀ ∷ s₁ ∷ s₂ ∷ []) u n x l h p q r s = absurd (omega arith)
-four-turns f view (s₀ ∷ s₁ ∷ s₂ ∷ s₃ ∷ []) u n x {y₀} {y₁} {y₂} {y₃} {a} {b} {c} {d} l h p q r s =
-    passed f (view s₀) (view s₁) (view s₂) (view s₃) (view a) (view b) (view c) (view d) n x y₀ y₁ y₂ y₃ h p q r s
-four-turns f view (s₀ ∷ s₁ ∷ s₂ ∷ s₃ ∷ s₄ ∷ ss) u n x l h p q r s = absurd (omega arith)
+four-turns f view ss u n x {y₀} {y₁} {y₂} {y₃} {a} {b} {c} {d} l h p q r s =
+    rw (← four-places view ss u l) (passed f _ _ _ _ (view a) (view b) (view c) (view d) n x y₀ y₁ y₂ y₃ h p q r s)

@@ -2,21 +2,25 @@
 // Rust has this once for each kind of filter (ButterworthLp, ButterworthHp, ButterworthBp, ChebyshevI, ChebyshevII); here
 // it stands once. `block` is added.
 ghost use mathlib.Core.Path.{_≡_};
-ghost use mathlib.Core.Bool.{cond, _||_};
+ghost use mathlib.Core.Bool.{true, cond, _||_};
 ghost use mathlib.Core.List.{map};
 ghost use Prim.Native.Nat.{_≤_};
+ghost use lib.ListN.{length};
 ghost use lib.Ieee.{binary64};
 ghost use Rattle.runs.specs.Runs.{step, reset, block};
 ghost use Rattle.sections.specs.Section.{clearedBiquad, sectionOut, sectionNext};
 ghost use Rattle.sections.specs.FirstOrder.{firstOut, firstNext};
 ghost use Rattle.sections.specs.View.{sectionView, firstView};
+ghost use Rattle.skew.specs.View.{fourView};
 ghost use Rattle.cascade.specs.Cascade.{sectionsOut, sectionsNext, value, moved, clouding, next, checkCascade, blankCascade, cascade};
+ghost use Rattle.cascade.specs.Skewed.{listed, Skewable};
 ghost use Rattle.cascade.specs.View.{cascadeView, updatedView, resetView, blockView};
 use runs::Answer;
 use sections::FirstOrder;
 use sections::FirstProcessed;
 use sections::Processed;
 use sections::Section;
+use skew::Four;
 
 pub struct Cascade {
     pub sections: [Section; 4],
@@ -102,6 +106,17 @@ fn pass_sections(sections: [Section; 4], count: usize, x: f64) -> Through
         out: p3.out,
         sections: [s0, s1, s2, s3],
     }
+}
+
+// The four sections by name, as crate skew has them.
+fn by_name(sections: [Section; 4]) -> Four
+    ensures { λ r. ⌜ listed (fourView r) ≡ map sectionView sections ⌝ }
+{
+    let s0 = sections[0];
+    let s1 = sections[1];
+    let s2 = sections[2];
+    let s3 = sections[3];
+    Four { s0, s1, s2, s3 }
 }
 
 // All four sections with carried values +0.
@@ -261,17 +276,11 @@ impl Cascade {
         }
     }
 
-    // A block of samples, each as `update` has it: the answers in the first places of the output, later places left. An
-    // output shorter than the input is refused by 5.
-    pub fn block(self, input: &[f64], output: &mut [f64]) -> Blocked
+    // A block of samples, one after the other.
+    fn plain_block(self, input: &[f64], output: &mut [f64]) -> Blocked
+        requires { ⌜ (checkCascade (cascadeView self) ≡ true) × (length (now input) ≤ length (now output)) ⌝ }
         ensures { λ r. ⌜ blockView r (now (output .exit)) ≡ block (cascade binary64) (cascadeView self) (now (input .entry)) (now (output .entry)) ⌝ }
     {
-        if !self.check() {
-            return self.refused_block(runs::BAD_CASCADE);
-        }
-        if output.len() < input.len() {
-            return self.refused_block(runs::SHORT_OUTPUT);
-        }
         let mut cascade = self;
         let mut clouded: usize = 0;
         let mut i: usize = 0;
@@ -290,5 +299,61 @@ impl Cascade {
             clouded,
             cascade,
         }
+    }
+
+    // Whether a block of these samples can run skewed.
+    fn skewable(self, input: &[f64]) -> bool
+        ensures { λ r. ⌜ (r ≡ true → Skewable (cascadeView self) (now (input .entry))) ⌝ }
+    {
+        if self.count != 4 {
+            return false;
+        }
+        if self.has_first {
+            return false;
+        }
+        if self.clouded {
+            return false;
+        }
+        if input.len() < 3 {
+            return false;
+        }
+        !skew::not_all_finite(input)
+    }
+
+    // The same block with each section one sample behind the section before it.
+    fn skewed_block(self, input: &[f64], output: &mut [f64]) -> Blocked
+        requires { ⌜ (Skewable (cascadeView self) (now input)) × (length (now input) ≤ length (now output)) ⌝ }
+        ensures { λ r. ⌜ blockView r (now (output .exit)) ≡ block (cascade binary64) (cascadeView self) (now (input .entry)) (now (output .entry)) ⌝ }
+    {
+        let before = self.sections;
+        let r = skew::run(by_name(before), input, output);
+        let s0 = r.four.s0;
+        let s1 = r.four.s1;
+        let s2 = r.four.s2;
+        let s3 = r.four.s3;
+        let mut cascade = self;
+        cascade.sections = [s0, s1, s2, s3];
+        Blocked {
+            refusal: 0,
+            clouded: 0,
+            cascade,
+        }
+    }
+
+    // A block of samples, each as `update` has it: the answers in the first places of the output, later places left. An
+    // output shorter than the input is refused by 5.
+    pub fn block(self, input: &[f64], output: &mut [f64]) -> Blocked
+        ensures { λ r. ⌜ blockView r (now (output .exit)) ≡ block (cascade binary64) (cascadeView self) (now (input .entry)) (now (output .entry)) ⌝ }
+    {
+        if !self.check() {
+            return self.refused_block(runs::BAD_CASCADE);
+        }
+        if output.len() < input.len() {
+            return self.refused_block(runs::SHORT_OUTPUT);
+        }
+        if self.skewable(input) {
+            return self.skewed_block(input, output);
+        }
+        self.plain_block(input, output)
     }
 }
