@@ -13,7 +13,8 @@ use Rattle.runs.proofs.Forgetting as runs
 use Rattle.runs.proofs.Forgetting.{Simulates}
 use Rattle.sections.specs.Section.{Biquad, clearedBiquad, sectionOut, sectionNext}
 use Rattle.sections.specs.FirstOrder.{FirstPart, firstOut, firstNext}
-use Rattle.cascade.specs.Cascade.{CascadeRecord, checkCascade, clearedCascade, clouding, sectionsOut, sectionsNext, entered, value, moved, mark, next, cascade}
+use Rattle.parts.specs.Parts.{sectionsOut, sectionsNext}
+use Rattle.cascade.specs.Cascade.{CascadeRecord, checkCascade, clearedCascade, clouding, entered, value, moved, mark, next, cascade}
 use Rattle.cascade.specs.Plain.{SectionCoefficients, Coefficients, sectionCoefficients, firstCoefficients, coefficientsOf, newSection, newPart, last, passFirst, passSection, passSections, passAll, plainValue, plainCascade, CascadeForgets}
 use Rattle.cascade.proofs.Laws.{check-next}
 

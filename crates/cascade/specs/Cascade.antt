@@ -1,5 +1,5 @@
 -- 01 "Cascade" and its part of "Run answer": the check, the number answered to a sample, the mark, and the record after it. Definitions only.
-use Prim.Native.Nat.{ℕ, zero, suc}
+use Prim.Native.Nat.{ℕ}
 use mathlib.Core.Bool.{Bool, false, not, _&&_, _||_, cond}
 use mathlib.Core.List.{List, [], _∷_, map}
 use lib.Dec.{leb, ltb}
@@ -7,8 +7,9 @@ use lib.Ieee.{Float, Format}
 use lib.Ieee.Scale.{finite}
 use Rattle.runs.specs.Refusals.{BadCascade}
 use Rattle.runs.specs.Runs.{Filter}
-use Rattle.sections.specs.Section.{Biquad, blankBiquad, clearedBiquad, sectionOut, sectionNext}
+use Rattle.sections.specs.Section.{Biquad, blankBiquad, clearedBiquad}
 use Rattle.sections.specs.FirstOrder.{FirstPart, blankFirst, clearedFirst, firstOut, firstNext}
+use Rattle.parts.specs.Parts.{sectionsOut, sectionsNext}
 
 -- four sections, a count, a first-order part with a flag, and a cloud flag
 pub record CascadeRecord : Type 0 where
@@ -38,30 +39,19 @@ unfoldable pub clouding : CascadeRecord → Float → Float → CascadeRecord �
 clouding before x y after = not (finite x)
 
 module _ (f : Format) where
-  -- a sample through the first n sections, from section 0 upward: what comes out, and the sections after it; later ones are left
-  abbrev pub sectionsOut : ℕ → List Biquad → Float → Float
-  sectionsOut zero ss x = x
-  sectionsOut (suc n) [] x = x
-  sectionsOut (suc n) (s ∷ ss) x = sectionsOut n ss (sectionOut f s x)
-
-  abbrev pub sectionsNext : ℕ → List Biquad → Float → List Biquad
-  sectionsNext zero ss x = ss
-  sectionsNext (suc n) [] x = []
-  sectionsNext (suc n) (s ∷ ss) x = sectionNext f s x ∷ sectionsNext n ss (sectionOut f s x)
-
   -- a sample passes the first-order part first, if it is used
   abbrev pub entered : CascadeRecord → Float → Float
   entered c x = cond (c .hasFirst) (firstOut f (c .first) x) x
 
-  -- then sections 0 upward: the number answered
+  -- then sections 0 upward, as many as are counted: the number answered
   unfoldable pub value : CascadeRecord → Float → Float
-  value c x = sectionsOut (c .count) (c .sections) (entered c x)
+  value c x = sectionsOut f (c .count) (c .sections) (entered c x)
 
   -- the record with its carried values after that, its flag as it was
   unfoldable pub moved : CascadeRecord → Float → CascadeRecord
   moved c x =
       record {
-        sections = sectionsNext (c .count) (c .sections) (entered c x);
+        sections = sectionsNext f (c .count) (c .sections) (entered c x);
         count = c .count;
         first = cond (c .hasFirst) (firstNext f (c .first) x) (c .first);
         hasFirst = c .hasFirst;

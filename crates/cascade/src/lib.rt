@@ -2,23 +2,22 @@
 // Rust has this once for each kind of filter (ButterworthLp, ButterworthHp, ButterworthBp, ChebyshevI, ChebyshevII); here
 // it stands once. `block` is added.
 ghost use mathlib.Core.Path.{_≡_};
-ghost use mathlib.Core.Bool.{true, cond, _||_};
+ghost use mathlib.Core.Bool.{true, _||_};
 ghost use mathlib.Core.List.{map};
 ghost use Prim.Native.Nat.{_≤_};
 ghost use lib.ListN.{length};
 ghost use lib.Ieee.{binary64};
 ghost use Rattle.runs.specs.Runs.{step, reset, block};
-ghost use Rattle.sections.specs.Section.{clearedBiquad, sectionOut, sectionNext};
-ghost use Rattle.sections.specs.FirstOrder.{firstOut, firstNext};
-ghost use Rattle.sections.specs.View.{sectionView, firstView};
+ghost use Rattle.sections.specs.View.{sectionView};
 ghost use Rattle.skew.specs.View.{fourView};
-ghost use Rattle.cascade.specs.Cascade.{sectionsOut, sectionsNext, value, moved, clouding, next, checkCascade, blankCascade, cascade};
+ghost use Rattle.cascade.specs.Cascade.{value, moved, clouding, next, checkCascade, blankCascade, cascade};
 ghost use Rattle.cascade.specs.Skewed.{listed, Skewable};
 ghost use Rattle.cascade.specs.View.{cascadeView, updatedView, resetView, blockView};
+use parts::enter;
+use parts::pass_sections;
+use parts::reset_sections;
 use runs::Answer;
 use sections::FirstOrder;
-use sections::FirstProcessed;
-use sections::Processed;
 use sections::Section;
 use skew::Four;
 
@@ -52,60 +51,10 @@ pub struct Blocked {
     pub cascade: Cascade,
 }
 
-// A number that came out of the sections, and the sections after it.
-struct Through {
-    out: f64,
-    sections: [Section; 4],
-}
-
 // A number that came out of the cascade, and the cascade after it.
 struct Passed {
     out: f64,
     cascade: Cascade,
-}
-
-// A sample through the first-order part where it is used.
-fn enter(has_first: bool, first: FirstOrder, x: f64) -> FirstProcessed
-    ensures { λ r. ⌜ (r .out ≡ cond «has_first» (firstOut binary64 (firstView first) x) x)
-        × (firstView (r .first) ≡ cond «has_first» (firstNext binary64 (firstView first) x) (firstView first)) ⌝ }
-{
-    if has_first {
-        first.process(x)
-    } else {
-        FirstProcessed { out: x, first }
-    }
-}
-
-// A sample through a section where it is used.
-fn turn(used: bool, section: Section, x: f64) -> Processed
-    ensures { λ r. ⌜ (r .out ≡ cond used (sectionOut binary64 (sectionView section) x) x)
-        × (sectionView (r .section) ≡ cond used (sectionNext binary64 (sectionView section) x) (sectionView section)) ⌝ }
-{
-    if used {
-        section.process(x)
-    } else {
-        Processed { out: x, section }
-    }
-}
-
-// A sample through the first `count` sections, from section 0 upward: four turns, so that no place depends on the count.
-fn pass_sections(sections: [Section; 4], count: usize, x: f64) -> Through
-    requires { ⌜ count ≤ 4 ⌝ }
-    ensures { λ r. ⌜ (r .out ≡ sectionsOut binary64 count (map sectionView sections) x)
-        × (map sectionView (r .sections) ≡ sectionsNext binary64 count (map sectionView sections) x) ⌝ }
-{
-    let p0 = turn(count > 0, sections[0], x);
-    let p1 = turn(count > 1, sections[1], p0.out);
-    let p2 = turn(count > 2, sections[2], p1.out);
-    let p3 = turn(count > 3, sections[3], p2.out);
-    let s0 = p0.section;
-    let s1 = p1.section;
-    let s2 = p2.section;
-    let s3 = p3.section;
-    Through {
-        out: p3.out,
-        sections: [s0, s1, s2, s3],
-    }
 }
 
 // The four sections by name, as crate skew has them.
@@ -117,21 +66,6 @@ fn by_name(sections: [Section; 4]) -> Four
     let s2 = sections[2];
     let s3 = sections[3];
     Four { s0, s1, s2, s3 }
-}
-
-// All four sections with carried values +0.
-fn reset_sections(sections: [Section; 4]) -> [Section; 4]
-    ensures { λ r. ⌜ map sectionView r ≡ map clearedBiquad (map sectionView sections) ⌝ }
-{
-    let mut kept = sections;
-    let mut i: usize = 0;
-    while i < Cascade::MAX_SECTIONS {
-        let s = kept[i];
-        let t = s.reset();
-        kept[i] = t;
-        i += 1;
-    }
-    kept
 }
 
 // The mark, 01 "Run answer": whether the answer y to x is Clouded, of the cascade before and after it.
@@ -146,7 +80,7 @@ fn clouds(before: Cascade, x: f64, y: f64, after: Cascade) -> bool
 
 impl Cascade {
     // How many sections there are.
-    pub const MAX_SECTIONS: usize = 4;
+    pub const MAX_SECTIONS: usize = parts::MAX_SECTIONS;
 
     // What a refused design returns: counts 0, flags off, numbers +0.
     pub fn blank() -> Self
@@ -176,7 +110,6 @@ impl Cascade {
 
     // The number answered to x, and the cascade with its carried values after it. The flag is as it was.
     fn moved(self, x: f64) -> Passed
-        requires { ⌜ self .count ≤ 4 ⌝ }
         ensures { λ r. ⌜ (r .out ≡ value binary64 (cascadeView self) x) × (cascadeView (r .cascade) ≡ moved binary64 (cascadeView self) x) ⌝ }
     {
         let old = self.first;
@@ -200,7 +133,6 @@ impl Cascade {
 
     // The same with the flag after x.
     fn pass(self, x: f64) -> Passed
-        requires { ⌜ self .count ≤ 4 ⌝ }
         ensures { λ r. ⌜ (r .out ≡ value binary64 (cascadeView self) x) × (cascadeView (r .cascade) ≡ next binary64 (cascadeView self) x) ⌝ }
     {
         let m = self.moved(x);

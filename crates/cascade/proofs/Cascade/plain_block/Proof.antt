@@ -7,7 +7,7 @@ use lib.Ieee.{binary64}
 use Rattle.runs.proofs.Laws.{Running, run-start, run-turn, run-done}
 use Rattle.cascade.specs.Cascade.{cascade}
 use Rattle.cascade.specs.View.{cascadeView}
-use Rattle.cascade.proofs.Laws.{count-in, check-next, mark-next}
+use Rattle.cascade.proofs.Laws.{check-next, mark-next}
 use borrow.Author.Needs.{needs}
 use Rattle.cascade.proofs.Cascade.plain_block.Statement.{statement}
 use Rattle.cascade.proofs.Cascade.plain_block.Tie as tie
@@ -28,7 +28,7 @@ shared-slice-read-pass : tie.Need-shared-slice-read-pass Inv-loop μ-loop
 shared-slice-read-pass c = search needs
 
 pass-requires : tie.Need-pass-requires Inv-loop μ-loop
-pass-requires c κs = count-in _ (c .before .before .loop .inv .good)
+pass-requires c κs = search needs
 
 mul-output : tie.Need-mul-output Inv-loop μ-loop
 mul-output c = search needs

@@ -5,7 +5,7 @@ use borrow.Author.Tests.{not-true, not-false}
 use lib.Ieee.{binary64}
 use Rattle.runs.proofs.Laws.{step-refused, step-answered}
 use Rattle.cascade.specs.Cascade.{cascade}
-use Rattle.cascade.proofs.Laws.{count-in, answer-is}
+use Rattle.cascade.proofs.Laws.{answer-is}
 use borrow.Author.Needs.{needs}
 use Rattle.cascade.proofs.Cascade.update.Statement.{statement}
 use Rattle.cascade.proofs.Cascade.update.Tie as tie
@@ -17,7 +17,7 @@ returns : tie.Need-returns
 returns c = step-refused (cascade binary64) _ _ (sym (c .before .check .ensures) ∙ not-true _ (c .if1 .taken))
 
 pass-requires : tie.Need-pass-requires
-pass-requires c κs = count-in _ (sym (c .before .check .ensures) ∙ not-false _ (c .if1 .left))
+pass-requires c κs = search needs
 
 returns-2 : tie.Need-returns-2
 returns-2 c = let b = c .before .before .before in

@@ -1,13 +1,13 @@
--- `cascade::pass_sections` meets its contract: four turns. Assumes nothing.
+-- `parts::pass_sections` meets its contract: four turns. Assumes nothing.
 use mathlib.Core.Path.{_≡_}
 use native.Mathlib.Omega.{arith}
 use lib.ListN.{length}
 use lib.Ieee.{binary64}
 use Rattle.sections.specs.View.{sectionView}
-use Rattle.cascade.proofs.Turns.{four-turns}
+use Rattle.parts.proofs.Turns.{four-turns}
 use borrow.Author.Needs.{needs}
-use Rattle.cascade.proofs.pass_sections.Statement.{statement}
-use Rattle.cascade.proofs.pass_sections.Tie as tie
+use Rattle.parts.proofs.pass_sections.Statement.{statement}
+use Rattle.parts.proofs.pass_sections.Tie as tie
 
 array-copy-out-turn : tie.Need-array-copy-out-turn
 array-copy-out-turn c = search needs
@@ -40,7 +40,7 @@ returns c = let s = c .before .before .before .before .before .before .before .b
     let q = c .before .before .before .before .before .before .before .before .turn2 .ensures in
     let r = c .before .before .before .before .before .before .turn3 .ensures in
     let t = c .before .before .before .before .turn4 .ensures in
-    four-turns binary64 sectionView (s .args .t1) _ (s .args .count) (s .args .x) four (s .pre) (record { out = p .0; next = p .1 }) (record { out = q .0; next = q .1 }) (record { out = r .0; next = r .1 })
+    four-turns binary64 sectionView (s .args .t1) _ (s .args .count) (s .args .x) four (record { out = p .0; next = p .1 }) (record { out = q .0; next = q .1 }) (record { out = r .0; next = r .1 })
     (record { out = t .0; next = t .1 })
 
 pub pass-sections-spec : {M : Type 1} → statement M

@@ -1,8 +1,8 @@
--- `cascade::enter` meets its contract. Assumes nothing.
+-- `parts::enter` meets its contract. Assumes nothing.
 use mathlib.Core.Path.{refl}
 use borrow.Author.Needs.{needs}
-use Rattle.cascade.proofs.enter.Statement.{statement}
-use Rattle.cascade.proofs.enter.Tie as tie
+use Rattle.parts.proofs.enter.Statement.{statement}
+use Rattle.parts.proofs.enter.Tie as tie
 
 process-requires : tie.Need-process-requires
 process-requires c κs = search needs

@@ -1,8 +1,8 @@
--- `cascade::turn` meets its contract. Assumes nothing.
+-- `parts::turn` meets its contract. Assumes nothing.
 use mathlib.Core.Path.{refl}
 use borrow.Author.Needs.{needs}
-use Rattle.cascade.proofs.turn.Statement.{statement}
-use Rattle.cascade.proofs.turn.Tie as tie
+use Rattle.parts.proofs.turn.Statement.{statement}
+use Rattle.parts.proofs.turn.Tie as tie
 
 process-requires : tie.Need-process-requires
 process-requires c κs = search needs

@@ -1,4 +1,4 @@
--- `cascade::reset_sections` meets its contract. The loop's invariant: the first i sections are cleared. The measure is how many are left. Assumes nothing.
+-- `parts::reset_sections` meets its contract. The loop's invariant: the first i sections are cleared. The measure is how many are left. Assumes nothing.
 use mathlib.Core.Path.{_≡_, _∙_}
 use mathlib.Core.List.{map}
 use Prim.Native.Nat.{_≤_, _<_, _-_}
@@ -7,9 +7,9 @@ use borrow.Author.Needs.{needs}
 use lib.ListN.{length, length-map}
 use Rattle.sections.specs.Section.{clearedBiquad}
 use Rattle.sections.specs.View.{sectionView}
-use Rattle.cascade.proofs.Loops.{upTo, upTo-none, upTo-turn, upTo-all}
-use Rattle.cascade.proofs.reset_sections.Statement.{statement}
-use Rattle.cascade.proofs.reset_sections.Tie as tie
+use Rattle.parts.proofs.Loops.{upTo, upTo-none, upTo-turn, upTo-all}
+use Rattle.parts.proofs.reset_sections.Statement.{statement}
+use Rattle.parts.proofs.reset_sections.Tie as tie
 
 abbrev Inv-loop : tie.InvT-loop
 Inv-loop kept₀ i₀ kept i = (i ≤ 4) × (map sectionView kept ≡ upTo clearedBiquad i (map sectionView kept₀))

@@ -1,0 +1,82 @@
+// The parts of a cascade, where they are used: a sample through the first-order part, and through the first of four
+// sections; and the sections' reset.
+ghost use mathlib.Core.Path.{_≡_};
+ghost use mathlib.Core.Bool.{cond};
+ghost use mathlib.Core.List.{map};
+ghost use lib.Ieee.{binary64};
+ghost use Rattle.sections.specs.Section.{clearedBiquad, sectionOut, sectionNext};
+ghost use Rattle.sections.specs.FirstOrder.{firstOut, firstNext};
+ghost use Rattle.sections.specs.View.{sectionView, firstView};
+ghost use Rattle.parts.specs.Parts.{sectionsOut, sectionsNext};
+use sections::FirstOrder;
+use sections::FirstProcessed;
+use sections::Processed;
+use sections::Section;
+
+// How many sections there are.
+pub const MAX_SECTIONS: usize = 4;
+
+// A number that came out of the sections, and the sections after it.
+pub struct Through {
+    pub out: f64,
+    pub sections: [Section; 4],
+}
+
+// A sample through the first-order part where it is used.
+pub fn enter(has_first: bool, first: FirstOrder, x: f64) -> FirstProcessed
+    ensures { λ r. ⌜ (r .out ≡ cond «has_first» (firstOut binary64 (firstView first) x) x)
+        × (firstView (r .first) ≡ cond «has_first» (firstNext binary64 (firstView first) x) (firstView first)) ⌝ }
+{
+    if has_first {
+        first.process(x)
+    } else {
+        FirstProcessed { out: x, first }
+    }
+}
+
+// A sample through a section where it is used.
+fn turn(used: bool, section: Section, x: f64) -> Processed
+    ensures { λ r. ⌜ (r .out ≡ cond used (sectionOut binary64 (sectionView section) x) x)
+        × (sectionView (r .section) ≡ cond used (sectionNext binary64 (sectionView section) x) (sectionView section)) ⌝ }
+{
+    if used {
+        section.process(x)
+    } else {
+        Processed { out: x, section }
+    }
+}
+
+// A sample through the first `count` sections, from section 0 upward, and through all where that is above 4: four turns, so
+// that no place depends on the count.
+pub fn pass_sections(sections: [Section; 4], count: usize, x: f64) -> Through
+    ensures { λ r. ⌜ (r .out ≡ sectionsOut binary64 count (map sectionView sections) x)
+        × (map sectionView (r .sections) ≡ sectionsNext binary64 count (map sectionView sections) x) ⌝ }
+{
+    let p0 = turn(count > 0, sections[0], x);
+    let p1 = turn(count > 1, sections[1], p0.out);
+    let p2 = turn(count > 2, sections[2], p1.out);
+    let p3 = turn(count > 3, sections[3], p2.out);
+    let s0 = p0.section;
+    let s1 = p1.section;
+    let s2 = p2.section;
+    let s3 = p3.section;
+    Through {
+        out: p3.out,
+        sections: [s0, s1, s2, s3],
+    }
+}
+
+// All four sections with carried values +0.
+pub fn reset_sections(sections: [Section; 4]) -> [Section; 4]
+    ensures { λ r. ⌜ map sectionView r ≡ map clearedBiquad (map sectionView sections) ⌝ }
+{
+    let mut kept = sections;
+    let mut i: usize = 0;
+    while i < MAX_SECTIONS {
+        let s = kept[i];
+        let t = s.reset();
+        kept[i] = t;
+        i += 1;
+    }
+    kept
+}
