@@ -7,7 +7,7 @@ use native.Mathlib.Omega.{arith}
 use lib.ListN.{length, set, length-append}
 use lib.Ieee.{Float}
 use Rattle.sections.specs.Section.{Biquad, blankBiquad}
-use Rattle.cascade.proofs.Loops.{map-set}
+use Rattle.parts.proofs.Loops.{map-set}
 use Rattle.checks.specs.Lists.{upTo}
 use Rattle.checks.proofs.Lists.{upTo-length}
 use Rattle.designs.specs.Design.{padded}
