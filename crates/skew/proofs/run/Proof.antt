@@ -21,7 +21,7 @@ abbrev μ-loop : tie.MeasureT-loop
 
 returns : tie.Need-returns Inv-loop μ-loop
 unfolding ran
-returns c = rw (lt-leb 3 _ (c .if1 .taken))
+returns c = let h : length (c .before .before .before .args .input .now) < 3 = omega arith in rw (lt-leb 3 _ h)
 
 returns-2 : tie.Need-returns-2 Inv-loop μ-loop
 unfolding ran
