@@ -1,4 +1,3 @@
--- The proofs that belong to no one function. Laws: the check, and what a step and a block return. Skewed: a block whose sections run skewed. Forgetting: the forgetting rule.
+-- The proofs that belong to no one function. Laws: the check, and what a step and a block return. Skewed: a block whose sections run skewed.
 pub mod Laws
 pub mod Skewed
-pub mod Forgetting

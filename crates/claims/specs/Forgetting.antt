@@ -2,10 +2,10 @@
 use mathlib.Core.List.{List}
 use lib.Ieee.{binary64}
 use Rattle.runs.specs.Forgetting.{Call}
-use Rattle.cascade.specs.Plain.{CascadeForgets}
+use Rattle.plain.specs.Cascade.{CascadeForgets}
 use Rattle.cascade.specs.View.{cascadeView}
 use Rattle.cascade.specs.declared.Cascade.{Cascade}
-use Rattle.taps.specs.Plain.{FirForgets}
+use Rattle.plain.specs.Fir.{FirForgets}
 use Rattle.taps.specs.Lent.{capacity}
 use Rattle.fir.specs.View.{tapsView}
 use Rattle.fir.specs.declared.TapRecord.{TapRecord}

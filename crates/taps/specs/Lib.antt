@@ -1,4 +1,3 @@
--- 01 "Tap record". Fir and its plain filter are over any float format and any capacity; Lent has the record whose taps and samples are lent.
+-- 01 "Tap record". Fir is over any float format and any capacity; Lent has the record whose taps and samples are lent.
 pub mod Fir
 pub mod Lent
-pub mod Plain

@@ -1,7 +1,7 @@
 -- `claims::accepted_designs_are_fresh` meets its contract. Assumes nothing.
 use Rattle.taps.specs.Lent.{capacity}
 use lib.Ieee.{binary64}
-use Rattle.cascade.proofs.Forgetting as cascade
+use Rattle.plain.proofs.Cascade as cascade
 use Rattle.taps.proofs.Fresh as fir
 use Rattle.designs.proofs.Fresh.{butterworth-lp-fresh, butterworth-hp-fresh, chebyshev1-fresh, chebyshev2-fresh, bandpass-fresh}
 use Rattle.windows.proofs.Fresh.{fir-fresh}

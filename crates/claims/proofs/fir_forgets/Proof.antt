@@ -5,7 +5,7 @@ use lib.Ieee.{binary64}
 use borrow.Author.Needs.{needs}
 use Rattle.taps.specs.Lent.{capacity}
 use Rattle.fir.specs.View.{tapsView}
-use Rattle.taps.proofs.Forgetting.{forgets}
+use Rattle.plain.proofs.Fir.{forgets}
 use Rattle.claims.proofs.fir_forgets.Statement.{statement}
 use Rattle.claims.proofs.fir_forgets.Tie as tie
 

@@ -14,9 +14,9 @@ use Rattle.runs.proofs.Forgetting.{Simulates}
 use Rattle.sections.specs.Section.{Biquad, clearedBiquad, sectionOut, sectionNext}
 use Rattle.sections.specs.FirstOrder.{FirstPart, firstOut, firstNext}
 use Rattle.parts.specs.Parts.{sectionsOut, sectionsNext}
 use Rattle.cascade.specs.Cascade.{CascadeRecord, checkCascade, clearedCascade, clouding, entered, value, moved, mark, next, cascade}
-use Rattle.cascade.specs.Plain.{SectionCoefficients, Coefficients, sectionCoefficients, firstCoefficients, coefficientsOf, newSection, newPart, last, passFirst, passSection, passSections, passAll, plainValue, plainCascade, CascadeForgets}
+use Rattle.plain.specs.Cascade.{SectionCoefficients, Coefficients, sectionCoefficients, firstCoefficients, coefficientsOf, newSection, newPart, last, passFirst, passSection, passSections, passAll, plainValue, plainCascade, CascadeForgets}
 use Rattle.cascade.proofs.Laws.{check-next}
 
 -- the record that has these coefficients and has taken no sample
 idle : Coefficients → CascadeRecord

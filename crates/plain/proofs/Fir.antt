@@ -16,9 +16,9 @@ use Rattle.runs.specs.Runs.{plusZero, marked, notAllFinite}
 use Rattle.runs.specs.Forgetting.{Call}
 use Rattle.runs.proofs.Forgetting as runs
 use Rattle.runs.proofs.Forgetting.{Simulates}
 use Rattle.taps.specs.Fir.{TapsRecord, next, heldOf, clouding, sum, value, mark, checkTaps, clearedTaps, fir}
-use Rattle.taps.specs.Plain.{tapsOf, used, plainFir, FirForgets}
+use Rattle.plain.specs.Fir.{tapsOf, used, plainFir, FirForgets}
 use Rattle.taps.proofs.Laws.{take-pushed, length-pushed, sizes, check-next, check-cleared, sum-none}
 
 -- ---- lists
 

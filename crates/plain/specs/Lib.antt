@@ -1,0 +1,3 @@
+-- The plain filters of both kinds of record, over any float format.
+pub mod Cascade
+pub mod Fir
