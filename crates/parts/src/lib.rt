@@ -1,5 +1,5 @@
-// The parts of a cascade, where they are used: a sample through the first-order part, and through the first of four
-// sections; and the sections' reset.
+// The parts of a cascade: a sample through the first-order part where it is used, and through as many of the four
+// sections as are counted; and the sections' reset.
 ghost use mathlib.Core.Path.{_≡_};
 ghost use mathlib.Core.Bool.{cond};
 ghost use mathlib.Core.List.{map};
