@@ -1,5 +1,16 @@
 // The top claims. Nothing runs here: each is the contract of a function that does nothing, so that the check names it
-// as proved.
+// as proved. The functions of operators.rt and operators_f32.rt compute: their claims are about the operators.
+mod operators;
+mod operators_f32;
+
+pub use operators::difference;
+pub use operators::product;
+pub use operators::quotient;
+pub use operators::sum;
+pub use operators_f32::difference_f32;
+pub use operators_f32::product_f32;
+pub use operators_f32::quotient_f32;
+pub use operators_f32::sum_f32;
 ghost use mathlib.Core.Path.{_≡_};
 ghost use Rattle.claims.specs.Ieee.{MeetsIeee754, Determined, OverflowsAtMidpoint};
 ghost use Rattle.claims.specs.Elementary.{NearestIsNearest, LnSplits, constantsOf};
