@@ -1,5 +1,5 @@
--- 01 "Calculations on the release sheet", over the definitions: one table, of what each row computes and what the sheet states, as numbers: a float by its bit
--- pattern, a refusal by its number, 0 for none. Definitions only.
+-- 01 "Calculations on the release sheet", over the definitions: one table, of each row's number, what it computes and what the sheet states. Both are lists of
+-- numbers: a float by its bit pattern, a refusal by its number, 0 for none.
 use mathlib.Core.Path.{_≡_}
 use mathlib.Core.List.{List, [], _∷_, _++_, map}
 use Prim.Native.Nat.{ℕ}
@@ -12,7 +12,10 @@ use Rattle.sections.specs.FirstOrder.{FirstPart, firstOut, firstNext}
 use Rattle.poles.specs.Butterworth.{lpBiquad, hpBiquad, lpFirst, hpFirst}
 use Rattle.taps.specs.Fir.{TapsRecord, fir, fromCoeffs}
 use Rattle.taps.specs.Lent.{capacity}
-use Rattle.checks.specs.Checks.{validateParams, validateBand, validateFir}
+use Rattle.designs.specs.LowPass.{butterworthLp}
+use Rattle.designs.specs.BandPass.{butterworthBp}
+use Rattle.windows.specs.Fir.{firLp}
+use Rattle.windows.specs.declared.WindowType.{WindowType}
 
 abbrev pub patterns : List Float → List ℕ
 patterns xs = map (toBits binary64) xs
@@ -43,14 +46,14 @@ tapAnswers r [] = []
 tapAnswers r (x ∷ xs) = answerNumbers (step (fir capacity binary64) r x .answer) ++ tapAnswers (step (fir capacity binary64) r x .state) xs
 
 -- the sheet's numbers by their patterns
-abbrev pub zero½ : ℕ
-zero½ = 0x3FE0000000000000
+abbrev pub half : ℕ
+half = 0x3FE0000000000000
 
-abbrev pub zero¼ : ℕ
-zero¼ = 0x3FD0000000000000
+abbrev pub minusHalf : ℕ
+minusHalf = 0xBFE0000000000000
 
-abbrev pub minus½ : ℕ
-minus½ = 0xBFE0000000000000
+abbrev pub quarter : ℕ
+quarter = 0x3FD0000000000000
 
 abbrev pub two : ℕ
 two = 0x4000000000000000
@@ -61,13 +64,6 @@ five = 0x4014000000000000
 abbrev pub notANumber : ℕ
 notANumber = 0x7FF8000000000000
 
-pub record Row : Type 0 where
-  pub computed : List ℕ
-  pub stated : List ℕ
-
-abbrev pub row : List ℕ → List ℕ → Row
-row c s = record { computed = c; stated = s }
-
 -- a block's refusal and its output
 abbrev pub blockNumbers : {S : Type 0} → Block S → List ℕ
 blockNumbers b = b .refusal ∷ patterns (b .output)
@@ -76,35 +72,48 @@ blockNumbers b = b .refusal ∷ patterns (b .output)
 abbrev pub twoTaps : TapsRecord
 twoTaps = fromCoeffs capacity ((nat 1 ⊘ nat 2) ∷ (nat 1 ⊘ nat 4) ∷ []) .filter
 
--- row 10 speaks of any cutoff, and row 14 of an output whose two places hold anything
-abbrev pub sheet : Float → Float → Float → List Row
-sheet cutoff p q =
+pub record Row : Type 0 where
+  pub number : ℕ
+  pub computed : List ℕ
+  pub stated : List ℕ
+
+abbrev pub row : ℕ → List ℕ → List ℕ → Row
+row n c s = record { number = n; computed = c; stated = s }
+
+-- row 10 speaks of any cutoff, row 12 of any window, and row 14 of an output whose two places hold anything
+abbrev pub sheet : Float → WindowType → Float → Float → List Row
+sheet cutoff window p q =
     -- 1. First-order low pass, k = 1: 0.5, 0.5, 0. 2. High pass: 0.5, −0.5, 0
-    row (firstCoefficients (lpFirst (nat 1))) (zero½ ∷ zero½ ∷ 0 ∷ [])
-    ∷ row (firstCoefficients (hpFirst (nat 1))) (zero½ ∷ minus½ ∷ 0 ∷ [])
+    row 1 (firstCoefficients (lpFirst (nat 1))) (half ∷ half ∷ 0 ∷ [])
+    ∷ row 2 (firstCoefficients (hpFirst (nat 1))) (half ∷ minusHalf ∷ 0 ∷ [])
     -- 3. Low section, σ −1, ω 0, k 1: 0.25, 0.5, 0.25, 0, 0. 4. High: 0.25, −0.5, 0.25, 0, 0
-    ∷ row (coefficients (lpBiquad (neg (nat 1)) (nat 0) (nat 1))) (zero¼ ∷ zero½ ∷ zero¼ ∷ 0 ∷ 0 ∷ [])
-    ∷ row (coefficients (hpBiquad (neg (nat 1)) (nat 0) (nat 1))) (zero¼ ∷ minus½ ∷ zero¼ ∷ 0 ∷ 0 ∷ [])
+    ∷ row 3 (coefficients (lpBiquad (neg (nat 1)) (nat 0) (nat 1))) (quarter ∷ half ∷ quarter ∷ 0 ∷ 0 ∷ [])
+    ∷ row 4 (coefficients (hpBiquad (neg (nat 1)) (nat 0) (nat 1))) (quarter ∷ minusHalf ∷ quarter ∷ 0 ∷ 0 ∷ [])
     -- 5. Row 1 on 1, 0, 0: 0.5, 0.5, 0. 6. Row 3 on 1, 0, 0, 0: 0.25, 0.5, 0.25, 0
-    ∷ row (patterns (firstAnswers (lpFirst (nat 1)) (nat 1 ∷ nat 0 ∷ nat 0 ∷ []))) (zero½ ∷ zero½ ∷ 0 ∷ [])
-    ∷ row (patterns (answers (lpBiquad (neg (nat 1)) (nat 0) (nat 1)) (nat 1 ∷ nat 0 ∷ nat 0 ∷ nat 0 ∷ []))) (zero¼ ∷ zero½ ∷ zero¼ ∷ 0 ∷ [])
+    ∷ row 5 (patterns (firstAnswers (lpFirst (nat 1)) (nat 1 ∷ nat 0 ∷ nat 0 ∷ []))) (half ∷ half ∷ 0 ∷ [])
+    ∷ row 6 (patterns (answers (lpBiquad (neg (nat 1)) (nat 0) (nat 1)) (nat 1 ∷ nat 0 ∷ nat 0 ∷ nat 0 ∷ []))) (quarter ∷ half ∷ quarter ∷ 0 ∷ [])
     -- 7. Taps 0.5, 0.25 on 4, 8, NaN, 4, 8: 2, 5, then two Clouded NaN, then 5 Clear
-    ∷ row (tapAnswers twoTaps (nat 4 ∷ nat 8 ∷ nan ∷ nat 4 ∷ nat 8 ∷ []))
+    ∷ row 7 (tapAnswers twoTaps (nat 4 ∷ nat 8 ∷ nan ∷ nat 4 ∷ nat 8 ∷ []))
     (0 ∷ two ∷ 0 ∷ five ∷ 1 ∷ notANumber ∷ 1 ∷ notANumber ∷ 0 ∷ five ∷ [])
     -- 8. Low pass order 2, rate 1000: cutoff 500 draws 2; 499 passes the checks
-    ∷ row (validateParams (nat 500) (nat 1000) 2 ∷ validateParams (nat 499) (nat 1000) 2 ∷ []) (2 ∷ 0 ∷ [])
+    ∷ row 8 (butterworthLp 2 (nat 500) (nat 1000) .refusal ∷ butterworthLp 2 (nat 499) (nat 1000) .refusal ∷ []) (2 ∷ 0 ∷ [])
     -- 9. Low pass order 9, rate 0, cutoff −1: 1. 10. Low pass order 8, rate 0, any cutoff: 3. 11. Band pass order 2, 100 to 200, rate 0: 2
-    ∷ row (validateParams (neg (nat 1)) (nat 0) 9 ∷ []) (1 ∷ [])
-    ∷ row (validateParams cutoff (nat 0) 8 ∷ []) (3 ∷ [])
-    ∷ row (validateBand (nat 100) (nat 200) (nat 0) 2 ∷ []) (2 ∷ [])
-    -- 12. FIR with 0 or 65 taps, cutoff 0.6: 1
-    ∷ row (validateFir 0 (nat 3 ⊘ nat 5) ∷ validateFir 65 (nat 3 ⊘ nat 5) ∷ []) (1 ∷ 1 ∷ [])
-    -- 13. sqrt(4) = 2; sqrt(2) = 3FF6A09E667F3BCD
-    ∷ row (patterns (sqrtOf binary64 (nat 4) ∷ sqrtOf binary64 (nat 2) ∷ [])) (two ∷ 0x3FF6A09E667F3BCD ∷ [])
+    ∷ row 9 (butterworthLp 9 (neg (nat 1)) (nat 0) .refusal ∷ []) (1 ∷ [])
+    ∷ row 10 (butterworthLp 8 cutoff (nat 0) .refusal ∷ []) (3 ∷ [])
+    ∷ row 11 (butterworthBp 2 (nat 100) (nat 200) (nat 0) .refusal ∷ []) (2 ∷ [])
+    -- 12. FIR with 0 or 65 taps, cutoff 0.6: 1. 13. sqrt(4) = 2; sqrt(2) = 3FF6A09E667F3BCD
+    ∷ row 12 (firLp 0 (nat 3 ⊘ nat 5) window .refusal ∷ firLp 65 (nat 3 ⊘ nat 5) window .refusal ∷ []) (1 ∷ 1 ∷ [])
+    ∷ row 13 (patterns (sqrtOf binary64 (nat 4) ∷ sqrtOf binary64 (nat 2) ∷ [])) (two ∷ 0x3FF6A09E667F3BCD ∷ [])
     -- 14. Three samples into an output of two: 5, both places kept
-    ∷ row (blockNumbers (block (fir capacity binary64) twoTaps (nat 4 ∷ nat 8 ∷ nat 4 ∷ []) (p ∷ q ∷ []))) (5 ∷ patterns (p ∷ q ∷ []))
+    ∷ row 14 (blockNumbers (block (fir capacity binary64) twoTaps (nat 4 ∷ nat 8 ∷ nat 4 ∷ []) (p ∷ q ∷ []))) (5 ∷ patterns (p ∷ q ∷ []))
     ∷ []
 
--- every row computes what it states
+-- the numbers of its rows
+abbrev pub numbers : List ℕ
+numbers = 1 ∷ 2 ∷ 3 ∷ 4 ∷ 5 ∷ 6 ∷ 7 ∷ 8 ∷ 9 ∷ 10 ∷ 11 ∷ 12 ∷ 13 ∷ 14 ∷ []
+
+-- the rows are numbered from 1 to 14, and each computes what it states
 pub record ReleaseSheet : Type 0 where
-  pub holds : (cutoff p q : Float) → map (λ (r : Row). r .computed) (sheet cutoff p q) ≡ map (λ (r : Row). r .stated) (sheet cutoff p q)
+  pub numbered : (cutoff : Float) (window : WindowType) (p q : Float) → map (λ (r : Row). r .number) (sheet cutoff window p q) ≡ numbers
+  pub holds : (cutoff : Float) (window : WindowType) (p q : Float)
+      → map (λ (r : Row). r .computed) (sheet cutoff window p q) ≡ map (λ (r : Row). r .stated) (sheet cutoff window p q)

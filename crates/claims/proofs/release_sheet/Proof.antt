@@ -1,4 +1,4 @@
--- `claims::release_sheet` meets its contract: antt computes the whole table. Assumes nothing.
+-- `claims::release_sheet` meets its contract: antt computes the whole table.
 use mathlib.Core.Path.{refl}
 use lib.Ieee.{add, sub, mul, div, neg, lt, le, isNan, ofInt, ofBits, toBits}
 use Rattle.runs.specs.Refusals.{orderRefused}
@@ -6,13 +6,18 @@ use Rattle.checks.specs.Checks.{notPositive, cutoffRefused, bandRefused, valida
 use Rattle.runs.specs.Runs.{notAllFinite, step, block}
 use Rattle.ieee.specs.Sqrt.{sqrtOf}
 use Rattle.taps.specs.Fir.{pushed, next, heldOf, clouding, sum, value, mark, checkTaps, holding, fromCoeffs}
+use Rattle.designs.specs.LowPass.{butterworthLp}
+use Rattle.designs.specs.BandPass.{butterworthBp}
+use Rattle.windows.specs.Fir.{firLp}
 use Rattle.poles.specs.Butterworth.{denominatorOf, lpBiquad, hpBiquad, lpFirst, hpFirst}
 use Rattle.claims.proofs.release_sheet.Statement.{statement}
 use Rattle.claims.proofs.release_sheet.Tie as tie
 
 returns : tie.Need-returns
-unfolding sqrtOf validateFir step block pushed next heldOf notAllFinite clouding sum value mark checkTaps holding fromCoeffs denominatorOf lpBiquad hpBiquad lpFirst hpFirst validateParams validateBand orderRefused notPositive cutoffRefused bandRefused add sub mul div neg lt le isNan ofInt ofBits toBits
-returns c = record { holds = λ cutoff p q. refl }
+unfolding butterworthLp butterworthBp firLp validateParams validateBand validateFir orderRefused notPositive cutoffRefused bandRefused
+    denominatorOf lpBiquad hpBiquad lpFirst hpFirst sqrtOf step block pushed next heldOf notAllFinite clouding sum value mark checkTaps holding fromCoeffs
+    add sub mul div neg lt le isNan ofInt ofBits toBits
+returns c = record { numbered = λ cutoff window p q. refl; holds = λ cutoff window p q. refl }
 
 pub release-sheet-spec : {M : Type 1} → statement M
 release-sheet-spec = tie.close (tie.spec returns)
