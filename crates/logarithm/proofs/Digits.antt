@@ -227,14 +227,18 @@ splits (fin false M E) p =
     let d = up-down s .1 in
     let n : M * up (minus 0 s) ≡ M = ap (λ (z : ℕ). M * z) u ∙ mul-one M in
     record {
+      above = p;
       least = le-trans (le-of-eq d) (le-trans (size-least M P) (le-of-eq (sym n)));
       most = lt-of-le-of-lt (le-of-eq n) (lt-of-lt-of-le (size-most M P) (le-of-eq (pow-succ' 2 s ∙ ap (λ (z : ℕ). 2 * z) (sym d))));
-      value =
-          ap (λ (z : ℕ). z * up (E +ℤ pos s) * down E) n
-          ∙ mul-assoc M (up (E +ℤ pos s)) (down E)
-          ∙ ap (λ (z : ℕ). M * z) (raised E s)
-          ∙ regroup M (up E) (2 ^ s) (down (E +ℤ pos s))
-          ∙ ap (λ (z : ℕ). M * up E * (z * down (E +ℤ pos s))) (sym d);
+      value = (
+        refl,
+        sym
+            (ap (λ (z : ℕ). z * up (E +ℤ pos s) * down E) n
+            ∙ mul-assoc M (up (E +ℤ pos s)) (down E)
+            ∙ ap (λ (z : ℕ). M * z) (raised E s)
+            ∙ regroup M (up E) (2 ^ s) (down (E +ℤ pos s))
+            ∙ ap (λ (z : ℕ). M * up E * (z * down (E +ℤ pos s))) (sym d)),
+      );
     }
   where
     regroup : (M a b c : ℕ) → M * (a * b * c) ≡ M * a * (b * c)

@@ -1,11 +1,12 @@
 -- 01's ln. Definitions only.
-use mathlib.Core.Path.{_≡_}
 use Prim.Native.Nat.{_-_, _*_, _≤_, _<_}
+use lib.Dec.{T}
 use mathlib.Core.Bool.{true, false, cond}
 use lib.IntN.{pos, _+ℤ_}
 use lib.Ieee as Ieee
 use lib.Ieee.{Float, nan, inf, fin, size, minus, up, down}
-use lib.Ieee.Positive.{num, den}
+use lib.Ieee.Exact.{HasValue}
+use lib.Ieee.Positive.{num, den, positive}
 use Rattle.scalar.specs.Operators.{_⊕_, _⊖_, _⊗_, _⊘_, bits, int}
 use Rattle.scalar.specs.Constants.{plusZero, one, two, half, ln2High, ln2Low}
 use Rattle.series.specs.Series.{lnSeries}
@@ -17,11 +18,12 @@ partsOf nan = record { m = nan; e = pos 0 }
 partsOf (inf s) = record { m = inf s; e = pos 0 }
 partsOf (fin s m e) = record { m = fin s m (minus 0 (size m - 1)); e = e +ℤ pos (size m - 1) }
 
--- The same without digits: p's m is the fraction num / den with 1 ≤ m < 2, and m × 2^e = x.
+-- The same without digits: p's m is above 0 and, as the fraction num / den, 1 ≤ m < 2; x has the sign plus and is m × 2^e in size.
 pub record Splits (x : Float) (p : Parts) : Type 0 where
+  pub above : T (positive (p .m))
   pub least : den (p .m) ≤ num (p .m)
   pub most : num (p .m) < 2 * den (p .m)
-  pub value : num (p .m) * up (p .e) * den x ≡ num x * (den (p .m) * down (p .e))
+  pub value : HasValue x false (num (p .m) * up (p .e)) (den (p .m) * down (p .e))
 
 -- m halved and e raised by 1 where m > 3FF6A09E667F3BCD
 unfoldable pub centred : Parts → Parts
