@@ -2,6 +2,7 @@
 pub mod Ieee
 pub mod Elementary
 pub mod Decimals
+pub mod Refused
 pub mod Fresh
 pub mod Forgetting
 pub mod Sheet

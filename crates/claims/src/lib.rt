@@ -15,6 +15,7 @@ ghost use mathlib.Core.Path.{_≡_};
 ghost use Rattle.claims.specs.Ieee.{MeetsIeee754, Determined, OverflowsAtMidpoint};
 ghost use Rattle.claims.specs.Elementary.{NearestIsNearest, LnSplits, constantsOf};
 ghost use Rattle.claims.specs.Decimals.{DecimalsAreNearest};
+ghost use Rattle.claims.specs.Refused.{RefusedByCheck};
 ghost use Rattle.claims.specs.Fresh.{AcceptedIsFresh};
 ghost use Rattle.claims.specs.Forgetting.{CascadeRule, FirRule};
 ghost use Rattle.claims.specs.Sheet.{ReleaseSheet};
@@ -83,6 +84,11 @@ pub fn cascade_forgets(start: Cascade)
 // The same of every tap record.
 pub fn fir_forgets(start: TapRecord)
     ensures { λ _. ⌜ FirRule start ⌝ }
+{}
+
+// A design of any kind is refused by the number that its check gives.
+pub fn designs_are_refused_by_their_checks()
+    ensures { λ _. ⌜ RefusedByCheck ⌝ }
 {}
 
 // What an accepted design, set of ready-made taps or reset returns is fresh.

@@ -1,0 +1,7 @@
+-- A design's refusal is the number that the check of its request gives: of every kind, 0 exactly where the check gives 0.
+use mathlib.Core.Path.{_≡_}
+use Rattle.requests.specs.Request.{checkRequest, designOf}
+use Rattle.requests.specs.declared.DesignRequest.{DesignRequest}
+
+pub record RefusedByCheck : Type 0 where
+  pub of : (request : DesignRequest) → designOf request .refusal ≡ checkRequest request
