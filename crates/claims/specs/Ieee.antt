@@ -1,5 +1,5 @@
 -- Demand 2's claim about IEEE 754, over the definitions of the crate `ieee`. `add`, `sub`, `mul` and `div` are what the language's own operators are defined
--- to do at each format, and `sqrtOf` is what `ieee::sqrt` returns. Definitions only.
+-- to do at each format: src/operators.rt and src/operators_f32.rt have the claim of the operators. `sqrtOf` is what `ieee::sqrt` returns.
 use mathlib.Core.Path.{_≡_}
 use mathlib.Core.Bool.{Bool}
 use Prim.Native.Nat.{ℕ, _*_, _≤_, _<_}

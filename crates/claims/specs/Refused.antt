@@ -1,4 +1,4 @@
--- A design's refusal is the number that the check of its request gives: of every kind, 0 exactly where the check gives 0.
+-- Of a request of every kind: its design's refusal is the number that its check gives, so it is 0 exactly where the check gives 0.
 use mathlib.Core.Path.{_≡_}
 use Rattle.requests.specs.Request.{checkRequest, designOf}
 use Rattle.requests.specs.declared.DesignRequest.{DesignRequest}
