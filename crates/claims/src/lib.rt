@@ -1,5 +1,5 @@
-// The top claims. Nothing runs here: each is the contract of a function that does nothing, so that the check names it
-// as proved. The functions of operators.rt and operators_f32.rt compute: their claims are about the operators.
+// The top claims. No program calls these functions: they stand for their contracts, so that the check names each claim as
+// proved. Most do nothing; those of operators.rt and operators_f32.rt compute, since their claims are about operators.
 mod operators;
 mod operators_f32;
 
