@@ -221,8 +221,8 @@ uint8_t pulse_fir_step(const double *PULSE_RESTRICT taps, size_t taps_len, doubl
                        double *PULSE_RESTRICT answer, size_t answer_len, size_t *PULSE_RESTRICT clouded, size_t clouded_len);
 
 /* `input` and `output` of a block must not overlap. No call can tell: where they do, it returns 0 and answers are wrong (of a
- * new filter of 31 taps, in every block of 63 samples or more). For one buffer that holds the samples and afterwards the
- * answers use pulse_fir_block_in_place. */
+ * fresh filter of 31 taps, from 63 samples on). For one buffer that holds the samples and afterwards the answers use
+ * pulse_fir_block_in_place. */
 
 /* The samples of `input`, each as a step, in their order. After it the first input_len places of `output` hold the
  * answers, its later places what they held, `clouded` how many of the answers are Clouded, and `samples` and `counts` the
