@@ -3,22 +3,61 @@
  * A filter's state is in the caller's memory, in the arrays described below; the library keeps nothing between two calls,
  * allocates nothing and calls no function of a math library. Calls on different states may run at the same time.
  *
- * Slices. An array crosses as a pointer and then its length in items. The pointer is not null and points to at least that
- * many items, even where the length is 0 or is not the one asked for. The slices of one call do not overlap each other, as
- * if each were `restrict`: an input is not its own output, and two parts of one state do not share memory. A slice that is
- * `const` here is only read.
+ * Slices. An array crosses as a pointer and then its length in items. The pointer points to at least that many items, also
+ * where the length is not the one asked for. A null pointer is not allowed, even with length 0. The slices of one call do not
+ * overlap each other (PULSE_RESTRICT): an input is not its own output, and two parts of one state do not share memory. A
+ * slice that is `const` here is only read.
  *
  * Refusals. Each function returns 0, or the number that refuses the call. After a refusal every slice is as it was before
  * the call, bit for bit. No other number is returned, and none but where a function below names it.
  *
  * Numbers. double is IEEE 754 binary64. The processor's modes are those that a program starts with: rounding to nearest, ties
  * to even, and subnormal numbers kept. Every answer is then fixed bit by bit, but for the bits of a NaN: where a NaN is
- * answered, it may be any NaN. */
+ * answered, it may be any NaN. Do not link with -ffast-math, -Ofast or -funsafe-math-optimizations, nor load a shared library
+ * that was linked so: GCC and Clang then add a start file (crtfastmath.o) that has the processor take subnormal numbers as 0,
+ * and answers differ. A FIR of the one tap 1 answers the sample 1e-310 by 0 then. What counts is how the program is linked,
+ * not how its files are compiled.
+ *
+ * Stack. The stack is not part of the proof. A call takes at most this many bytes of it, its return address included:
+ *
+ *     pulse_design_butterworth_lp         1608
+ *     pulse_design_butterworth_hp         1608
+ *     pulse_design_butterworth_bp          424
+ *     pulse_design_chebyshev1_lp          1640
+ *     pulse_design_chebyshev2_lp          1640
+ *     pulse_cascade_step                     8
+ *     pulse_cascade_block                  448
+ *     pulse_cascade_reset                    8
+ *     pulse_design_fir_lp                 2248
+ *     pulse_fir_from_coeffs               1624
+ *     pulse_fir_step                        16
+ *     pulse_fir_block                     2280
+ *     pulse_fir_reset                       24
+ *
+ * These are bounds, which `tools/stack` reads off the archive's machine code; no function calls itself. They leave out what
+ * memcpy, memmove and memset take: little by themselves, but kilobytes where the dynamic loader looks one of them up at its
+ * first call. */
 #ifndef PULSE_H
 #define PULSE_H
 
 #include <stddef.h>
 #include <stdint.h>
+
+/* `restrict` as the language that reads this header has it: of a pointer of a call, that no other pointer of the call leads to
+ * the same items. A compiler can then warn where one array is passed twice (GCC: -Wrestrict, which -Wall includes). */
+#if defined(__cplusplus)
+#if defined(__GNUC__) || defined(_MSC_VER)
+#define PULSE_RESTRICT __restrict
+#else
+#define PULSE_RESTRICT
+#endif
+#elif defined(__STDC_VERSION__) && __STDC_VERSION__ >= 199901L
+#define PULSE_RESTRICT restrict
+#elif defined(__GNUC__)
+#define PULSE_RESTRICT __restrict
+#else
+#define PULSE_RESTRICT
+#endif
 
 #ifdef __cplusplus
 extern "C" {
@@ -108,48 +147,51 @@ enum pulse_window {
 /* Butterworth low pass: order / 2 sections, and the first-order part where the order is odd.
  * 13; 1: order 0 or above 8; 3: rate NaN or at most 0; 2: cutoff NaN, at most 0, or at least rate x 0.5. */
 uint8_t pulse_design_butterworth_lp(size_t order, double cutoff, double sample_rate,
-                                    double *numbers, size_t numbers_len, size_t *counts, size_t counts_len);
+                                    double *PULSE_RESTRICT numbers, size_t numbers_len, size_t *PULSE_RESTRICT counts, size_t counts_len);
 
 /* Butterworth high pass: parts and refusals as of the low pass. */
 uint8_t pulse_design_butterworth_hp(size_t order, double cutoff, double sample_rate,
-                                    double *numbers, size_t numbers_len, size_t *counts, size_t counts_len);
+                                    double *PULSE_RESTRICT numbers, size_t numbers_len, size_t *PULSE_RESTRICT counts, size_t counts_len);
 
 /* Butterworth band pass from `low` to `high`: as many sections as the order, and no first-order part.
  * 13; 1: order 0 or above 4; 2: an edge NaN, low at most 0, high at most low, or high at least rate x 0.5; 3: rate NaN. */
 uint8_t pulse_design_butterworth_bp(size_t order, double low, double high, double sample_rate,
-                                    double *numbers, size_t numbers_len, size_t *counts, size_t counts_len);
+                                    double *PULSE_RESTRICT numbers, size_t numbers_len, size_t *PULSE_RESTRICT counts, size_t counts_len);
 
 /* Chebyshev low pass of type I, `ripple_db` the ripple of the pass band in decibels: parts as of the Butterworth low pass.
  * 13; 1, 3, 2 as of the Butterworth low pass; then 4: ripple_db NaN or at most 0. */
 uint8_t pulse_design_chebyshev1_lp(size_t order, double cutoff, double ripple_db, double sample_rate,
-                                   double *numbers, size_t numbers_len, size_t *counts, size_t counts_len);
+                                   double *PULSE_RESTRICT numbers, size_t numbers_len, size_t *PULSE_RESTRICT counts, size_t counts_len);
 
 /* Chebyshev low pass of type II, `stopband_db` the attenuation of the stop band in decibels: parts as of the Butterworth
  * low pass. 13; 1, 3, 2 as of the Butterworth low pass; then 4: stopband_db NaN or at most 0. */
 uint8_t pulse_design_chebyshev2_lp(size_t order, double cutoff, double stopband_db, double sample_rate,
-                                   double *numbers, size_t numbers_len, size_t *counts, size_t counts_len);
+                                   double *PULSE_RESTRICT numbers, size_t numbers_len, size_t *PULSE_RESTRICT counts, size_t counts_len);
 
 /* Running a cascade. */
 
 /* One sample x. After it `answer` holds the answer, `clouded` 1 where it is Clouded and else 0, `numbers` the new carried
  * values of the used parts and its other places as they were, and `counts` the new cloud flag.
  * 13: numbers_len is not 32, counts_len not 3, answer_len or clouded_len not 1, or a flag in `counts` above 1; then 11. */
-uint8_t pulse_cascade_step(double *numbers, size_t numbers_len, size_t *counts, size_t counts_len, double x,
-                           double *answer, size_t answer_len, size_t *clouded, size_t clouded_len);
+uint8_t pulse_cascade_step(double *PULSE_RESTRICT numbers, size_t numbers_len, size_t *PULSE_RESTRICT counts, size_t counts_len, double x,
+                           double *PULSE_RESTRICT answer, size_t answer_len, size_t *PULSE_RESTRICT clouded, size_t clouded_len);
+
+/* `input` and `output` of a block must not overlap. No call can tell: where they do, it returns 0 and the answers may be
+ * wrong. For one buffer that holds the samples and afterwards the answers use pulse_cascade_block_in_place. */
 
 /* The samples of `input`, each as a step, in their order. After it the first input_len places of `output` hold the
  * answers, its later places what they held, `clouded` how many of the answers are Clouded, and `numbers` and `counts` the
  * state after the last step. An empty input leaves the state and the output, and makes `clouded` 0.
  * 13: numbers_len is not 32, counts_len not 3, clouded_len not 1, or a flag above 1; then 11; then 5: output_len below
  * input_len. */
-uint8_t pulse_cascade_block(double *numbers, size_t numbers_len, size_t *counts, size_t counts_len,
-                            const double *input, size_t input_len, double *output, size_t output_len,
-                            size_t *clouded, size_t clouded_len);
+uint8_t pulse_cascade_block(double *PULSE_RESTRICT numbers, size_t numbers_len, size_t *PULSE_RESTRICT counts, size_t counts_len,
+                            const double *PULSE_RESTRICT input, size_t input_len, double *PULSE_RESTRICT output, size_t output_len,
+                            size_t *PULSE_RESTRICT clouded, size_t clouded_len);
 
 /* Forgets all samples: after it every carried value in `numbers` is +0, those of unused parts too, the cloud flag in
  * `counts` is 0, and all else is as it was.
  * 13: numbers_len is not 32, counts_len not 3, or a flag above 1; then 11. */
-uint8_t pulse_cascade_reset(double *numbers, size_t numbers_len, size_t *counts, size_t counts_len);
+uint8_t pulse_cascade_reset(double *PULSE_RESTRICT numbers, size_t numbers_len, size_t *PULSE_RESTRICT counts, size_t counts_len);
 
 /* Making a FIR filter. */
 
@@ -159,38 +201,42 @@ uint8_t pulse_cascade_reset(double *numbers, size_t numbers_len, size_t *counts,
  * 13: taps_len or samples_len is not 64, counts_len not 3, or window above 3; then 1: taps_asked 0 or above 64; then 2:
  * cutoff NaN, at most 0, or at least 0.5. */
 uint8_t pulse_design_fir_lp(size_t taps_asked, double cutoff, size_t window,
-                            double *taps, size_t taps_len, double *samples, size_t samples_len,
-                            size_t *counts, size_t counts_len);
+                            double *PULSE_RESTRICT taps, size_t taps_len, double *PULSE_RESTRICT samples, size_t samples_len,
+                            size_t *PULSE_RESTRICT counts, size_t counts_len);
 
 /* Taps given ready-made: any numbers, coeffs_len of them. After it `taps` holds them and behind them +0, `samples` is all
  * +0, and `counts` holds their number, 0 and the window code 4.
  * 13: taps_len or samples_len is not 64, or counts_len not 3; then 1: coeffs_len 0 or above 64. */
-uint8_t pulse_fir_from_coeffs(const double *coeffs, size_t coeffs_len,
-                              double *taps, size_t taps_len, double *samples, size_t samples_len,
-                              size_t *counts, size_t counts_len);
+uint8_t pulse_fir_from_coeffs(const double *PULSE_RESTRICT coeffs, size_t coeffs_len,
+                              double *PULSE_RESTRICT taps, size_t taps_len, double *PULSE_RESTRICT samples, size_t samples_len,
+                              size_t *PULSE_RESTRICT counts, size_t counts_len);
 
 /* Running a FIR filter. */
 
 /* One sample x. After it `answer` holds the answer, `clouded` 1 where it is Clouded and else 0, `samples` the samples with
  * x at place 0, and `counts` a held count that is one more, up to the length.
  * 13: taps_len or samples_len is not 64, counts_len not 3, or answer_len or clouded_len not 1; then 12. */
-uint8_t pulse_fir_step(const double *taps, size_t taps_len, double *samples, size_t samples_len,
-                       size_t *counts, size_t counts_len, double x,
-                       double *answer, size_t answer_len, size_t *clouded, size_t clouded_len);
+uint8_t pulse_fir_step(const double *PULSE_RESTRICT taps, size_t taps_len, double *PULSE_RESTRICT samples, size_t samples_len,
+                       size_t *PULSE_RESTRICT counts, size_t counts_len, double x,
+                       double *PULSE_RESTRICT answer, size_t answer_len, size_t *PULSE_RESTRICT clouded, size_t clouded_len);
+
+/* `input` and `output` of a block must not overlap. No call can tell: where they do, it returns 0 and answers are wrong (of a
+ * fresh filter of 31 taps, from 63 samples on). For one buffer that holds the samples and afterwards the answers use
+ * pulse_fir_block_in_place. */
 
 /* The samples of `input`, each as a step, in their order. After it the first input_len places of `output` hold the
  * answers, its later places what they held, `clouded` how many of the answers are Clouded, and `samples` and `counts` the
  * state after the last step. An empty input leaves the state and the output, and makes `clouded` 0.
  * 13: taps_len or samples_len is not 64, counts_len not 3, or clouded_len not 1; then 12; then 5: output_len below
  * input_len. */
-uint8_t pulse_fir_block(const double *taps, size_t taps_len, double *samples, size_t samples_len,
-                        size_t *counts, size_t counts_len, const double *input, size_t input_len,
-                        double *output, size_t output_len, size_t *clouded, size_t clouded_len);
+uint8_t pulse_fir_block(const double *PULSE_RESTRICT taps, size_t taps_len, double *PULSE_RESTRICT samples, size_t samples_len,
+                        size_t *PULSE_RESTRICT counts, size_t counts_len, const double *PULSE_RESTRICT input, size_t input_len,
+                        double *PULSE_RESTRICT output, size_t output_len, size_t *PULSE_RESTRICT clouded, size_t clouded_len);
 
 /* Forgets all samples: after it `samples` is all +0 and the held count in `counts` is 0; all else is as it was.
  * 13: taps_len or samples_len is not 64, or counts_len not 3; then 12. */
-uint8_t pulse_fir_reset(const double *taps, size_t taps_len, double *samples, size_t samples_len,
-                        size_t *counts, size_t counts_len);
+uint8_t pulse_fir_reset(const double *PULSE_RESTRICT taps, size_t taps_len, double *PULSE_RESTRICT samples, size_t samples_len,
+                        size_t *PULSE_RESTRICT counts, size_t counts_len);
 
 #ifdef __cplusplus
 }
