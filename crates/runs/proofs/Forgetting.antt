@@ -190,9 +190,32 @@ module _ (F : Filter) (s : F .State) (h : F .check s ≡ false) where
 
 -- THE CLAIM, where the record stands beside the plain filter at the start
 pub forgets : (F : Filter) (P : Plain) (feed : F .State → P .Fed) (s : F .State) (S : Simulates F P (feed s)) → (F .check s ≡ true → S .Beside false [] s)
-    → (Fresh F s → S .Beside true [] s) → (calls : List Call) → Forgets F P feed s calls
+    → (Fresh F s → S .Beside true [] s) → (calls : List Call) → Forgets F P feed s calls (run F s calls)
 forgets F P feed s S start fresh calls = record {
   fromFresh = λ e. all-same F P (feed s) S calls (fresh e);
   fromAny = λ h. all-seen F P (feed s) S calls (start h);
   fromRefused = λ h. all-refused F s h calls;
 }
+
+-- ---- a list of calls that shows what `run` says
+
+pub forgets-shown : (F : Filter) (P : Plain) (feed : F .State → P .Fed) (s : F .State) (calls : List Call) {outcomes : List Outcome} → outcomes ≡ run F s calls
+    → Forgets F P feed s calls (run F s calls) → Forgets F P feed s calls outcomes
+forgets-shown F P feed s calls e p = rw e p
+
+-- the first of some calls, by what it returned and left, and the rest from there
+module _ (F : Filter) (s : F .State) {s′ : F .State} (calls : List Call) {outcomes : List Outcome} where
+  pub run-step : (x : Float) {a : Answer} → record { answer = a; state = s′ } ≡ Runs.step F s x → outcomes ≡ run F s′ calls → stepped a ∷ outcomes ≡ run F s (step x ∷ calls)
+  unfolding run outcome left
+  run-step x e rest = ap₂ _∷_ (ap (λ (z : Runs.Step (F .State)). stepped (z .answer)) e) (rest ∙ ap (λ (z : Runs.Step (F .State)). run F (z .state) calls) e)
+
+  pub run-block : (input output : List Float) {refusal clouded : ℕ} {output′ : List Float}
+      → record { refusal = refusal; clouded = clouded; state = s′; output = output′ } ≡ Runs.block F s input output → outcomes ≡ run F s′ calls
+      → blocked refusal clouded output′ ∷ outcomes ≡ run F s (block input output ∷ calls)
+  unfolding run outcome left
+  run-block input output e rest =
+      ap₂ _∷_ (ap (λ (z : Runs.Block (F .State)). blocked (z .refusal) (z .clouded) (z .output)) e) (rest ∙ ap (λ (z : Runs.Block (F .State)). run F (z .state) calls) e)
+
+  pub run-reset : {refusal : ℕ} → record { refusal = refusal; state = s′ } ≡ Runs.reset F s → outcomes ≡ run F s′ calls → wasReset refusal ∷ outcomes ≡ run F s (reset ∷ calls)
+  unfolding run outcome left
+  run-reset e rest = ap₂ _∷_ (ap (λ (z : Runs.Reset (F .State)). wasReset (z .refusal)) e) (rest ∙ ap (λ (z : Runs.Reset (F .State)). run F (z .state) calls) e)
