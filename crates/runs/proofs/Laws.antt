@@ -48,6 +48,11 @@ module _ (F : Filter) (s : F .State) where
   unfolding block
   block-refused input output h = rw h
 
+  pub block-is : (input output : List Float) → F .check s ≡ true → length input ≤ length output
+      → block F s input output ≡ record { refusal = 0; clouded = cloudedIn (answers F s input); state = after F s input; output = written (answers F s input) output }
+  unfolding block
+  block-is input output h l = rw (h, le-ltb (length output) (length input) l)
+
   pub block-short : (input output : List Float) → F .check s ≡ true → length output < length input → refusedBlock ShortOutput s output ≡ block F s input output
   unfolding block
   block-short input output h l = rw (h, lt-ltb (length output) (length input) l)
@@ -244,8 +249,7 @@ module _ (F : Filter) (keeps : (s : F .State) (x : Float) → F .check s ≡ tru
   -- what a block of the first k samples returns
   pub front-is : block F s (take k input) output₀
       ≡ record { refusal = 0; clouded = cloudedIn (answers F s (take k input)); state = after F s (take k input); output = written (answers F s (take k input)) output₀ }
-  unfolding block
-  front-is = rw (good, le-ltb (length output₀) (length (take k input)) (rw (length-take) (omega arith)))
+  front-is = block-is F s (take k input) output₀ good (rw (length-take) (omega arith))
 
   -- and the rest behind it
   pub block-parts : {s₁ s₂ : F .State} {output₁ output₂ : List Float} {c₁ c₂ : ℕ} → record { refusal = 0; clouded = c₁; state = s₁; output = output₁ } ≡ block F s (take k input) output₀
@@ -285,12 +289,6 @@ written-split [] b (y ∷ front) back h = absurd (omega (arith, h))
 written-split (x ∷ a) b [] back h = absurd (omega (arith, h))
 written-split (x ∷ a) b (y ∷ front) back h = ap (λ (l : List Float). placed x y ∷ l) (written-split a b front back (omega (arith, h)))
 
--- what a block of as many places as samples returns
-full-is : (F : Filter) (s : F .State) (xs output : List Float) → F .check s ≡ true → length xs ≡ length output
-    → block F s xs output ≡ record { refusal = 0; clouded = cloudedIn (answers F s xs); state = after F s xs; output = written (answers F s xs) output }
-unfolding block
-full-is F s xs output h e = rw (h, le-ltb (length output) (length xs) (omega (arith, e)))
-
 module _ (F : Filter) (keeps : (s : F .State) (x : Float) → F .check s ≡ true → F .check (F .next s x) ≡ true) (s₀ : F .State) (input output₀ : List Float) where
   -- n samples from sample i on, as a block of their own over their places, which hold ys after it
   pub run-part : {s s′ : F .State} {output ys : List Float} {refusal clouded c i : ℕ} (n : ℕ) → i + n ≤ length input
@@ -301,7 +299,7 @@ module _ (F : Filter) (keeps : (s : F .State) (x : Float) → F .check s ≡ tru
       let os = take n (drop i output) in
       let lx : length xs ≡ n = rw (length-take, length-drop) (omega arith) in
       let lo : length os ≡ n = rw (length-take, length-drop) (omega (arith, p .room)) in
-      let q = e ∙ full-is F s xs os (p .good) (lx ∙ sym lo) in
+      let q = e ∙ block-is F s xs os (p .good) (omega (arith, lx, lo)) in
       let a = answers F s xs in
       let la : length a ≡ n = answers-length F keeps s xs ∙ lx in
       let ec : c ≡ cloudedIn a = ap (λ (b : Block (F .State)). b .clouded) q in
