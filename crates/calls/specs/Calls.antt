@@ -57,6 +57,10 @@ module _ (K : Kind) (numbers : List Float) (counts : List ℕ) where
   blockCall input output tally =
       cond (eqb (length tally) 1) (ran output tally (lentBlock (K .filter) fitting recordOf input output)) (unchanged output tally BadCall)
 
+  -- a block in place: the block whose input and output both hold what the samples are before the call
+  unfoldable pub blockInPlaceCall : List Float → List ℕ → Call
+  blockInPlaceCall samples tally = blockCall samples samples tally
+
 -- ---- a reset
 pub record Stored : Type 0 where
   pub refusal : ℕ

@@ -1,9 +1,10 @@
 // Steps, blocks and resets of a lent cascade.
 ghost use mathlib.Core.Path.{_≡_};
 ghost use Rattle.calls.specs.Kinds.{cascadeKind};
-ghost use Rattle.calls.specs.Calls.{stepCall, blockCall, resetCall};
+ghost use Rattle.calls.specs.Calls.{stepCall, blockCall, blockInPlaceCall, resetCall};
 use super::answer::put;
 use super::answer::single;
+use in_place::cascade_block;
 use layout::fits;
 use layout::read;
 use layout::write;
@@ -56,6 +57,33 @@ pub extern "C" fn pulse_cascade_block(
         return runs::BAD_CALL;
     }
     let b = read(numbers, counts).block(input, output);
+    let refusal = b.refusal;
+    if refusal != 0 {
+        return refusal;
+    }
+    write(b.cascade, numbers, counts);
+    clouded[0] = b.clouded;
+    0
+}
+
+// A block in place.
+#[no_mangle]
+pub extern "C" fn pulse_cascade_block_in_place(
+    numbers: &mut [f64],
+    counts: &mut [usize],
+    samples: &mut [f64],
+    clouded: &mut [usize],
+) -> u8
+    ensures { λ r. ⌜ record { refusal = r; numbers = now (numbers .exit); counts = now (counts .exit); answers = now (samples .exit); clouded = now (clouded .exit) }
+        ≡ blockInPlaceCall cascadeKind (now (numbers .entry)) (now (counts .entry)) (now (samples .entry)) (now (clouded .entry)) ⌝ }
+{
+    if clouded.len() != 1 {
+        return runs::BAD_CALL;
+    }
+    if !fits(numbers, counts) {
+        return runs::BAD_CALL;
+    }
+    let b = cascade_block(read(numbers, counts), samples);
     let refusal = b.refusal;
     if refusal != 0 {
         return refusal;

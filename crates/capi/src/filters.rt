@@ -1,9 +1,10 @@
 // Steps, blocks and resets of a lent tap record.
 ghost use mathlib.Core.Path.{_≡_};
 ghost use Rattle.calls.specs.Kinds.{firKind};
-ghost use Rattle.calls.specs.Calls.{stepCall, blockCall, resetCall};
+ghost use Rattle.calls.specs.Calls.{stepCall, blockCall, blockInPlaceCall, resetCall};
 use super::answer::put;
 use super::answer::single;
+use in_place::fir_block;
 use layout::COUNTS;
 
 // One sample x.
@@ -64,6 +65,34 @@ pub extern "C" fn pulse_fir_block(
         input,
         output,
     );
+    let refusal = b.refusal;
+    if refusal != 0 {
+        return refusal;
+    }
+    counts[1] = b.held;
+    clouded[0] = b.clouded;
+    0
+}
+
+// A block in place.
+#[no_mangle]
+pub extern "C" fn pulse_fir_block_in_place(
+    taps: &[f64],
+    samples: &mut [f64],
+    counts: &mut [usize],
+    buffer: &mut [f64],
+    clouded: &mut [usize],
+) -> u8
+    ensures { λ r. ⌜ record { refusal = r; numbers = now (samples .exit); counts = now (counts .exit); answers = now (buffer .exit); clouded = now (clouded .exit) }
+        ≡ blockInPlaceCall (firKind (now (taps .entry))) (now (samples .entry)) (now (counts .entry)) (now (buffer .entry)) (now (clouded .entry)) ⌝ }
+{
+    if clouded.len() != 1 {
+        return runs::BAD_CALL;
+    }
+    if counts.len() != COUNTS {
+        return runs::BAD_CALL;
+    }
+    let b = fir_block(taps, samples, counts[0], counts[1], counts[2], buffer);
     let refusal = b.refusal;
     if refusal != 0 {
         return refusal;

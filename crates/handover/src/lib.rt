@@ -1,6 +1,5 @@
 // What a design and ready-made taps hand to slices that a caller lends: the record, and 0 or the number that refuses it.
 ghost use mathlib.Core.Path.{_≡_};
-ghost use lib.ListN.{length};
 ghost use Rattle.fir.specs.View.{madeView};
 ghost use Rattle.designs.specs.View.{designView};
 ghost use Rattle.calls.specs.Calls.{designCall, tapsPlaces, madeCall, windowOf};
@@ -11,6 +10,7 @@ use layout::COUNTS;
 use layout::has_places;
 use layout::put_counts;
 use layout::write;
+use lists::copy;
 use windows::WindowType;
 
 // A cascade design into slices: 0, or the number that refuses it.
@@ -40,18 +40,6 @@ fn has_tap_places(taps: &[f64], samples: &[f64], counts: &[usize]) -> bool
         return false;
     }
     counts.len() == COUNTS
-}
-
-// One slice into another of its length.
-fn copy(from: &[f64], to: &mut [f64])
-    requires { ⌜ length (now from) ≡ length (now to) ⌝ }
-    ensures { λ _. ⌜ now (to .exit) ≡ now (from .entry) ⌝ }
-{
-    let mut i: usize = 0;
-    while i < from.len() {
-        to[i] = from[i];
-        i += 1;
-    }
 }
 
 // A tap record into slices: 0, or the number that refuses it.

@@ -7,7 +7,7 @@ use native.Mathlib.Omega.{arith}
 use lib.Ieee.{Float, Format}
 use lib.Ieee.Scale.{finite}
 use Rattle.runs.specs.Runs.{plusZero, marked, notAllFinite, Fresh, answer, reset}
-use Rattle.runs.specs.Forgetting.{Call}
+use Rattle.runs.specs.Forgetting.{Call, run}
 use Rattle.runs.proofs.Laws.{reset-fresh}
 use Rattle.runs.proofs.Forgetting as runs
 use Rattle.runs.proofs.Forgetting.{Simulates}
@@ -174,7 +174,7 @@ module _ (f : Format) where
         ap (λ (c : CascadeRecord). answer (cascade f) c x) (b .made (since-reset since e)) ∙ ap₂ marked (mark-after g kept x) (value-after g kept x);
   }
 
-  pub forgets : (c : CascadeRecord) (calls : List Call) → CascadeForgets f c calls
+  pub forgets : (c : CascadeRecord) (calls : List Call) → CascadeForgets f c calls (run (cascade f) c calls)
   unfolding after simulates
   forgets c =
       runs.forgets (cascade f) (plainCascade f) coefficientsOf c (simulates (coefficientsOf c))

@@ -13,7 +13,7 @@ use lib.Seq.{take-take, take-nil, length-take-le}
 use lib.Ieee.{Float, Format, add, mul}
 use borrow.Author.Tests.{leb-true}
 use Rattle.runs.specs.Runs.{plusZero, marked, notAllFinite}
-use Rattle.runs.specs.Forgetting.{Call}
+use Rattle.runs.specs.Forgetting.{Call, run}
 use Rattle.runs.proofs.Forgetting as runs
 use Rattle.runs.proofs.Forgetting.{Simulates}
 use Rattle.taps.specs.Fir.{TapsRecord, next, heldOf, clouding, sum, value, mark, checkTaps, clearedTaps, fir}
@@ -134,7 +134,7 @@ module _ (capacity : ℕ) (f : Format) (r : TapsRecord) (lt : length (r .taps) �
         exact = λ e. rw min-zero (none e);
       }
 
-  pub forgets : (calls : List Call) → FirForgets capacity f r calls
+  pub forgets : (calls : List Call) → FirForgets capacity f r calls (run (fir capacity f) r calls)
   unfolding simulates clearedTaps
   forgets =
       runs.forgets (fir capacity f) (plainFir f) tapsOf r (simulates capacity f (tapsOf r)) (λ h. start false h (λ e. absurd (false≢true e)))

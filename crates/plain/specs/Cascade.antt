@@ -4,7 +4,7 @@ use mathlib.Core.Bool.{Bool, false, cond}
 use mathlib.Core.List.{List, [], _∷_, map, reverse}
 use lib.Ieee.{Float, Format}
 use Rattle.runs.specs.Runs.{plusZero, notAllFinite}
-use Rattle.runs.specs.Forgetting.{Plain, Call, Forgets}
+use Rattle.runs.specs.Forgetting.{Plain, Call, Outcome, Forgets}
 use Rattle.sections.specs.Section.{Biquad, newBiquad, sectionOut, sectionNext}
 use Rattle.sections.specs.FirstOrder.{FirstPart, newFirst, firstOut, firstNext}
 use Rattle.cascade.specs.Cascade.{CascadeRecord, cascade}
@@ -80,6 +80,6 @@ module _ (f : Format) where
   abbrev pub plainCascade : Plain
   plainCascade = record { Fed = Coefficients; value = plainValue; mark = λ c kept. notAllFinite kept; enough = λ c k. false }
 
-  -- demand 3 of the cascade, for a list of calls on a record
-  abbrev pub CascadeForgets : CascadeRecord → List Call → Type 0
-  CascadeForgets c calls = Forgets (cascade f) plainCascade coefficientsOf c calls
+  -- demand 3 of the cascade, for a list of calls that starts at a record and shows these outcomes
+  abbrev pub CascadeForgets : CascadeRecord → List Call → List Outcome → Type 0
+  CascadeForgets c calls outcomes = Forgets (cascade f) plainCascade coefficientsOf c calls outcomes

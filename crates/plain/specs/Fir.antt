@@ -5,7 +5,7 @@ use lib.Dec.{leb}
 use lib.ListN.{length, take}
 use lib.Ieee.{Float, Format}
 use Rattle.runs.specs.Runs.{plusZero, notAllFinite}
-use Rattle.runs.specs.Forgetting.{Plain, Call, Forgets}
+use Rattle.runs.specs.Forgetting.{Plain, Call, Outcome, Forgets}
 use Rattle.taps.specs.Fir.{TapsRecord, sum, fir}
 
 -- it is fed the starting record's taps
@@ -26,6 +26,6 @@ plainFir f = record {
   enough = λ taps k. leb (length taps) k;
 }
 
--- demand 3 of the tap record, for a list of calls on a record of this capacity
-abbrev pub FirForgets : ℕ → Format → TapsRecord → List Call → Type 0
-FirForgets capacity f r calls = Forgets (fir capacity f) (plainFir f) tapsOf r calls
+-- demand 3 of the tap record, for a list of calls that starts at a record of this capacity and shows these outcomes
+abbrev pub FirForgets : ℕ → Format → TapsRecord → List Call → List Outcome → Type 0
+FirForgets capacity f r calls outcomes = Forgets (fir capacity f) (plainFir f) tapsOf r calls outcomes

@@ -40,7 +40,7 @@ answered-refusal true y = refl
 answered-refusal false y = refl
 
 -- a block that is answered, or whose output is short
-abbrev ran : Bool → List Answer → List Float → Outcome
+abbrev pub ran : Bool → List Answer → List Float → Outcome
 ran short ys output = cond short (blocked ShortOutput 0 output) (blocked Accepted (cloudedIn ys) (written ys output))
 
 -- from a fresh record every answer is due
@@ -51,15 +51,15 @@ all-due P fed k (x ∷ xs) = all-due P fed (suc k) xs
 
 -- ---- the outcome of a call on a record that passes its check
 module _ (F : Filter) (s : F .State) (h : F .check s ≡ true) where
-  step-outcome : (x : Float) → outcome F s (step x) ≡ stepped (answer F s x)
+  pub step-outcome : (x : Float) → outcome F s (step x) ≡ stepped (answer F s x)
   unfolding outcome
   step-outcome x = rw (step-is F s x h)
 
-  step-left : (x : Float) → left F s (step x) ≡ F .next s x
+  pub step-left : (x : Float) → left F s (step x) ≡ F .next s x
   unfolding left
   step-left x = rw (step-is F s x h, left)
 
-  block-outcome : (input output : List Float) → outcome F s (block input output) ≡ ran (isShort input output) (answers F s input) output
+  pub block-outcome : (input output : List Float) → outcome F s (block input output) ≡ ran (isShort input output) (answers F s input) output
   unfolding outcome Runs.block
   block-outcome input output = rw h (go (isShort input output))
     where
@@ -68,7 +68,7 @@ module _ (F : Filter) (s : F .State) (h : F .check s ≡ true) where
       go true = refl
       go false = refl
 
-  block-left : (input output : List Float) → left F s (block input output) ≡ cond (isShort input output) s (after F s input)
+  pub block-left : (input output : List Float) → left F s (block input output) ≡ cond (isShort input output) s (after F s input)
   unfolding left Runs.block
   block-left input output = rw (h, left) (go (isShort input output))
     where
@@ -76,11 +76,11 @@ module _ (F : Filter) (s : F .State) (h : F .check s ≡ true) where
       go true = refl
       go false = refl
 
-  reset-outcome : outcome F s reset ≡ wasReset Accepted
+  pub reset-outcome : outcome F s reset ≡ wasReset Accepted
   unfolding outcome Runs.reset
   reset-outcome = rw h
 
-  reset-left : left F s reset ≡ F .cleared s
+  pub reset-left : left F s reset ≡ F .cleared s
   unfolding left Runs.reset
   reset-left = rw (h, left)
 
@@ -171,13 +171,13 @@ module _ (F : Filter) (P : Plain) (fed : P .Fed) (S : Simulates F P fed) where
 
 -- ---- a record that fails its check
 module _ (F : Filter) (s : F .State) (h : F .check s ≡ false) where
-  outcome-refused : (c : Call) → outcome F s c ≡ refusedBy (F .refusal) c
+  pub outcome-refused : (c : Call) → outcome F s c ≡ refusedBy (F .refusal) c
   unfolding outcome Runs.step Runs.block Runs.reset
   outcome-refused (step x) = rw h
   outcome-refused (block input output) = rw h
   outcome-refused reset = rw h
 
-  left-refused : (c : Call) → left F s c ≡ s
+  pub left-refused : (c : Call) → left F s c ≡ s
   unfolding left Runs.step Runs.block Runs.reset
   left-refused (step x) = rw (h, left)
   left-refused (block input output) = rw (h, left)
@@ -190,9 +190,32 @@ module _ (F : Filter) (s : F .State) (h : F .check s ≡ false) where
 
 -- THE CLAIM, where the record stands beside the plain filter at the start
 pub forgets : (F : Filter) (P : Plain) (feed : F .State → P .Fed) (s : F .State) (S : Simulates F P (feed s)) → (F .check s ≡ true → S .Beside false [] s)
-    → (Fresh F s → S .Beside true [] s) → (calls : List Call) → Forgets F P feed s calls
+    → (Fresh F s → S .Beside true [] s) → (calls : List Call) → Forgets F P feed s calls (run F s calls)
 forgets F P feed s S start fresh calls = record {
   fromFresh = λ e. all-same F P (feed s) S calls (fresh e);
   fromAny = λ h. all-seen F P (feed s) S calls (start h);
   fromRefused = λ h. all-refused F s h calls;
 }
+
+-- ---- a list of calls that shows what `run` says
+
+pub forgets-shown : (F : Filter) (P : Plain) (feed : F .State → P .Fed) (s : F .State) (calls : List Call) {outcomes : List Outcome} → outcomes ≡ run F s calls
+    → Forgets F P feed s calls (run F s calls) → Forgets F P feed s calls outcomes
+forgets-shown F P feed s calls e p = rw e p
+
+-- the first of some calls, by what it returned and left, and the rest from there
+module _ (F : Filter) (s : F .State) {s′ : F .State} (calls : List Call) {outcomes : List Outcome} where
+  pub run-step : (x : Float) {a : Answer} → record { answer = a; state = s′ } ≡ Runs.step F s x → outcomes ≡ run F s′ calls → stepped a ∷ outcomes ≡ run F s (step x ∷ calls)
+  unfolding run outcome left
+  run-step x e rest = ap₂ _∷_ (ap (λ (z : Runs.Step (F .State)). stepped (z .answer)) e) (rest ∙ ap (λ (z : Runs.Step (F .State)). run F (z .state) calls) e)
+
+  pub run-block : (input output : List Float) {refusal clouded : ℕ} {output′ : List Float}
+      → record { refusal = refusal; clouded = clouded; state = s′; output = output′ } ≡ Runs.block F s input output → outcomes ≡ run F s′ calls
+      → blocked refusal clouded output′ ∷ outcomes ≡ run F s (block input output ∷ calls)
+  unfolding run outcome left
+  run-block input output e rest =
+      ap₂ _∷_ (ap (λ (z : Runs.Block (F .State)). blocked (z .refusal) (z .clouded) (z .output)) e) (rest ∙ ap (λ (z : Runs.Block (F .State)). run F (z .state) calls) e)
+
+  pub run-reset : {refusal : ℕ} → record { refusal = refusal; state = s′ } ≡ Runs.reset F s → outcomes ≡ run F s′ calls → wasReset refusal ∷ outcomes ≡ run F s (reset ∷ calls)
+  unfolding run outcome left
+  run-reset e rest = ap₂ _∷_ (ap (λ (z : Runs.Reset (F .State)). wasReset (z .refusal)) e) (rest ∙ ap (λ (z : Runs.Reset (F .State)). run F (z .state) calls) e)

@@ -7,8 +7,8 @@ use native.Mathlib.Nat.{zero-lt-suc, zero-add, add-zero}
 use native.Mathlib.Numerals.{add-one}
 use native.Mathlib.Omega.{arith}
 use lib.Dec.{eqb, ltb}
-use lib.ListN.{length, getD, set, take, drop, length-set, length-take, length-drop, take-append-drop, drop-of-length-le}
-use lib.Seq.{drop-cons, take-suc-set, drop-set-lt}
+use lib.ListN.{length, getD, set, take, drop, length-set, length-append, length-take, length-drop, take-append-drop, drop-of-length-le}
+use lib.Seq.{drop-cons, take-suc-set, drop-set-lt, drop-drop, take-at, drop-at}
 use borrow.Author.Tests.{ltb-false, lt-ltb, le-ltb}
 use Rattle.runs.specs.Refusals.{orderRefused, ShortOutput}
 use lib.Ieee.{Float, nan}
@@ -47,6 +47,11 @@ module _ (F : Filter) (s : F .State) where
   pub block-refused : (input output : List Float) → F .check s ≡ false → refusedBlock (F .refusal) s output ≡ block F s input output
   unfolding block
   block-refused input output h = rw h
+
+  pub block-is : (input output : List Float) → F .check s ≡ true → length input ≤ length output
+      → block F s input output ≡ record { refusal = 0; clouded = cloudedIn (answers F s input); state = after F s input; output = written (answers F s input) output }
+  unfolding block
+  block-is input output h l = rw (h, le-ltb (length output) (length input) l)
 
   pub block-short : (input output : List Float) → F .check s ≡ true → length output < length input → refusedBlock ShortOutput s output ≡ block F s input output
   unfolding block
@@ -217,6 +222,15 @@ unfolding cloudedIn
 clouded-append [] b = sym (zero-add (cloudedIn b))
 clouded-append (x ∷ a) b = omega (arith, clouded-append a b)
 
+few-clouded : (a : List Answer) → cloudedIn a ≤ length a
+unfolding cloudedIn
+few-clouded [] = omega arith
+few-clouded (x ∷ a) = go (isClouded x) (few-clouded a)
+  where
+    go : (b : Bool) → cloudedIn a ≤ length a → cond b 1 0 + cloudedIn a ≤ suc (length a)
+    go true h = omega arith
+    go false h = omega arith
+
 pub written-length : (a : List Answer) (output : List Float) → length (written a output) ≡ length output
 unfolding written
 written-length [] output = refl
@@ -235,8 +249,7 @@ module _ (F : Filter) (keeps : (s : F .State) (x : Float) → F .check s ≡ tru
   -- what a block of the first k samples returns
   pub front-is : block F s (take k input) output₀
       ≡ record { refusal = 0; clouded = cloudedIn (answers F s (take k input)); state = after F s (take k input); output = written (answers F s (take k input)) output₀ }
-  unfolding block
-  front-is = rw (good, le-ltb (length output₀) (length (take k input)) (rw (length-take) (omega arith)))
+  front-is = block-is F s (take k input) output₀ good (rw (length-take) (omega arith))
 
   -- and the rest behind it
   pub block-parts : {s₁ s₂ : F .State} {output₁ output₂ : List Float} {c₁ c₂ : ℕ} → record { refusal = 0; clouded = c₁; state = s₁; output = output₁ } ≡ block F s (take k input) output₀
@@ -260,18 +273,58 @@ module _ (F : Filter) (keeps : (s : F .State) (x : Float) → F .check s ≡ tru
       ∙ ap₂ (λ (z : ℕ) (l : List Float). take z l ++ written (answers F s₁ ys) (drop z l)) la (sym o) ∙ sym eo in
       rw (good, le-ltb (length output₀) (length input) room, count, last, places)
 
-  few-clouded : (a : List Answer) → cloudedIn a ≤ length a
-  unfolding cloudedIn
-  few-clouded [] = omega arith
-  few-clouded (x ∷ a) = go (isClouded x) (few-clouded a)
-    where
-      go : (b : Bool) → cloudedIn a ≤ length a → cond b 1 0 + cloudedIn a ≤ suc (length a)
-      go true h = omega arith
-      go false h = omega arith
-
   -- the counts of both parts are no more than the samples
   pub parts-few : {s₁ : F .State} {output₁ : List Float} {c₁ c₂ : ℕ} → record { refusal = 0; clouded = c₁; state = s₁; output = output₁ } ≡ block F s (take k input) output₀
       → c₂ ≡ cloudedIn (answers F s₁ (drop k input)) → c₁ + c₂ ≤ length input
   parts-few {s₁} {output₁} {c₁} {c₂} e ec =
       let a : c₁ ≡ cloudedIn (answers F s (take k input)) = ap (λ (b : Block (F .State)). b .clouded) (e ∙ front-is) in
       omega (arith, a, ec, few-clouded (answers F s (take k input)), few-clouded (answers F s₁ (drop k input)), answers-length F keeps s (take k input), answers-length F keeps s₁ (drop k input), length-take k input, length-drop k input)
+
+-- ---- a block whose samples are taken some at a time
+
+written-split : (a b : List Answer) (front back : List Float) → length a ≡ length front → written (a ++ b) (front ++ back) ≡ written a front ++ written b back
+unfolding written
+written-split [] b [] back h = refl
+written-split [] b (y ∷ front) back h = absurd (omega (arith, h))
+written-split (x ∷ a) b [] back h = absurd (omega (arith, h))
+written-split (x ∷ a) b (y ∷ front) back h = ap (λ (l : List Float). placed x y ∷ l) (written-split a b front back (omega (arith, h)))
+
+module _ (F : Filter) (keeps : (s : F .State) (x : Float) → F .check s ≡ true → F .check (F .next s x) ≡ true) (s₀ : F .State) (input output₀ : List Float) where
+  -- n samples from sample i on, as a block of their own over their places, which hold ys after it
+  pub run-part : {s s′ : F .State} {output ys : List Float} {refusal clouded c i : ℕ} (n : ℕ) → i + n ≤ length input
+      → record { refusal = refusal; clouded = c; state = s′; output = ys } ≡ block F s (take n (drop i input)) (take n (drop i output))
+      → Running F s₀ input output₀ s output clouded i → Running F s₀ input output₀ s′ (take i output ++ ys ++ drop (i + n) output) (clouded + c) (i + n)
+  run-part {s} {s′} {output} {ys} {refusal} {clouded} {c} {i} n h e p =
+      let xs = take n (drop i input) in
+      let os = take n (drop i output) in
+      let lx : length xs ≡ n = rw (length-take, length-drop) (omega arith) in
+      let lo : length os ≡ n = rw (length-take, length-drop) (omega (arith, p .room)) in
+      let q = e ∙ block-is F s xs os (p .good) (omega (arith, lx, lo)) in
+      let a = answers F s xs in
+      let la : length a ≡ n = answers-length F keeps s xs ∙ lx in
+      let ec : c ≡ cloudedIn a = ap (λ (b : Block (F .State)). b .clouded) q in
+      let es : s′ ≡ after F s xs = ap (λ (b : Block (F .State)). b .state) q in
+      let ey : ys ≡ written a os = ap (λ (b : Block (F .State)). b .output) q in
+      let ly : length ys ≡ n = ap length ey ∙ written-length a os ∙ lo in
+      let rest = drop (i + n) input in
+      let behind = drop (i + n) output in
+      let b = answers F s′ rest in
+      let split : (l : List Float) → drop i l ≡ take n (drop i l) ++ drop (i + n) l = λ l. sym (take-append-drop n (drop i l)) ∙ ap (λ (t : List Float). take n (drop i l) ++ t) (drop-drop n i l) in
+      let all : answers F s (drop i input) ≡ a ++ b = ap (answers F s) (split input) ∙ answers-append F keeps s xs rest ∙ ap (λ (t : F .State). a ++ answers F t rest) (sym es) in
+      let first = take i output ++ ys in
+      let lf : length first ≡ i + n = rw (length-append, length-take) (omega (arith, ly, p .room)) in
+      let same-length : length (take i output ++ ys ++ behind) ≡ length output = rw (length-append, lf, length-drop) (omega (arith, p .room)) in
+      record {
+        within = h;
+        room = rw same-length (p .room);
+        few = omega (arith, p .few, ec, few-clouded a, la);
+        good = rw es (check-after F keeps s xs (p .good));
+        state = ap (λ (t : F .State). after F t rest) es ∙ sym (after-append F keeps s xs rest) ∙ ap (after F s) (sym (split input)) ∙ p .state;
+        count =
+            let sum : cloudedIn (answers F s (drop i input)) ≡ c + cloudedIn b = ap cloudedIn all ∙ clouded-append a b ∙ ap (λ (z : ℕ). z + cloudedIn b) (sym ec) in
+            omega (arith, sum, p .count);
+        places =
+            rw (take-at first behind (i + n) lf, drop-at first behind (i + n) lf, append-assoc)
+            (ap (λ (t : List Float). take i output ++ t) (ap (λ (t : List Float). t ++ written b behind) ey ∙ sym (written-split a b os behind (la ∙ sym lo)) ∙ sym (ap₂ written all (split output))) ∙ p .places);
+        same = same-length ∙ p .same;
+      }

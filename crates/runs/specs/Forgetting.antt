@@ -145,11 +145,12 @@ refusedBy n (step x) = stepped (refused n)
 refusedBy n (block input output) = blocked n 0 output
 refusedBy n reset = wasReset n
 
--- DEMAND 3, of a list of calls of the filter F on the record s, and of the plain filter P that is fed what `feed` takes from s
-pub record Forgets (F : Filter) (P : Plain) (feed : F .State → P .Fed) (s : F .State) (calls : List Call) : Type 0 where
+-- DEMAND 3, of a list of calls of the filter F that starts at the record s and shows these outcomes, and of the plain filter P that is fed what `feed` takes
+-- from s
+pub record Forgets (F : Filter) (P : Plain) (feed : F .State → P .Fed) (s : F .State) (calls : List Call) (outcomes : List Outcome) : Type 0 where
   -- from a fresh record: every answer, mark, count, refusal and output place
-  pub fromFresh : Fresh F s → run F s calls ≡ plainRun P (feed s) [] calls
+  pub fromFresh : Fresh F s → outcomes ≡ plainRun P (feed s) [] calls
   -- from any other that passes its check: all that is seen
-  pub fromAny : F .check s ≡ true → seen P (feed s) false [] calls (run F s calls) ≡ seen P (feed s) false [] calls (plainRun P (feed s) [] calls)
+  pub fromAny : F .check s ≡ true → seen P (feed s) false [] calls outcomes ≡ seen P (feed s) false [] calls (plainRun P (feed s) [] calls)
   -- from one that does not: every call is refused
-  pub fromRefused : F .check s ≡ false → run F s calls ≡ map (refusedBy (F .refusal)) calls
+  pub fromRefused : F .check s ≡ false → outcomes ≡ map (refusedBy (F .refusal)) calls

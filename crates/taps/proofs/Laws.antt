@@ -17,11 +17,9 @@ use Rattle.runs.specs.Runs.{plusZero, notAllFinite, marked, answer, Step, Reset
 use Rattle.runs.specs.Lent.{lentStep, lentReset}
 use Rattle.runs.proofs.Laws.{step-answered, reset-done}
 use Rattle.runs.proofs.Lent.{lent-step, lent-reset}
+use Rattle.lists.proofs.Copies.{Copying, snoc-take, copy-turn, copy-done}
 use Rattle.taps.specs.Lent.{lentTaps, fits}
 use Rattle.taps.specs.Fir.{TapsRecord, ReadyMade, pushed, next, heldOf, clouding, sum, value, mark, checkTaps, zeros, blankTaps, clearedTaps, fir, holding, Made, fromCoeffs}
-
-snoc-take : (l ys : List Float) (i : ℕ) → i < length l → take i l ++ getD l i nan ∷ ys ≡ take (suc i) l ++ ys
-snoc-take l ys i h = rw (take-suc l i nan, append-assoc)
 
 -- ---- the loop that pushes: i places are done, and carried is what goes next
 abbrev pub Pushing : List Float → Float → List Float → Float → ℕ → Type 0
@@ -243,23 +241,6 @@ drop-replicate : (n i : ℕ) (a : Float) → drop i (replicate n a) ≡ replicat
 drop-replicate n zero a = rw (sub-zero)
 drop-replicate zero (suc i) a = rw (zero-sub)
 drop-replicate (suc n) (suc i) a = rw (suc-sub-suc) (drop-replicate n i a)
-
--- the loop that copies: the first i are in place
-abbrev pub Copying : List Float → List Float → List Float → ℕ → Type 0
-Copying ts l₀ l i = (l ≡ take i ts ++ drop i l₀) × (length l ≡ length l₀)
-
-pub copy-start : (ts l₀ l : List Float) → l ≡ l₀ → Copying ts l₀ l 0
-copy-start ts l₀ l e = (e, ap length e)
-
-pub copy-turn : (ts l₀ l : List Float) (i : ℕ) → i < length ts → i < length l₀ → Copying ts l₀ l i → Copying ts l₀ (set l i (getD ts i nan)) (i + 1)
-copy-turn ts l₀ l i h k p =
-    let t : length (take i ts) ≡ i = length-take-le i ts (omega arith) in
-    let e = drop-cons l₀ i nan k in
-    (rw (p .0, add-one, e) (set-at (take i ts) _ (drop (suc i) l₀) _ i t ∙ snoc-take ts (drop (suc i) l₀) i h), length-set l i (getD ts i nan) ∙ p .1)
-
-pub copy-done : (ts l₀ l : List Float) (i : ℕ) → length ts ≤ i → length ts ≡ length l₀ → Copying ts l₀ l i → l ≡ ts
-copy-done ts l₀ l i h k p = let z = drop-of-length-le l₀ {i = i} (omega arith) in
-    p .0 ∙ rw (z, append-nil) (take-all i ts h)
 
 -- the loop that clears copies +0
 abbrev pub Clearing : List Float → List Float → ℕ → Type 0

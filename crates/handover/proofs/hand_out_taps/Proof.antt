@@ -11,6 +11,7 @@ use Rattle.fir.specs.View.{madeView}
 use Rattle.calls.specs.Kinds.{tapsCounts}
 use Rattle.calls.specs.Calls.{tapsPlaces}
 use Rattle.calls.proofs.Laws.{taps-lengths, made-unfit, made-refused, made-accepted}
+use Rattle.lists.proofs.Copies.{copied-same}
 use borrow.Author.Needs.{needs}
 use Rattle.handover.proofs.hand_out_taps.Statement.{statement}
 use Rattle.handover.proofs.hand_out_taps.Tie as tie
@@ -55,13 +56,13 @@ slice-aggregate-copy : tie.Need-slice-aggregate-copy
 slice-aggregate-copy c = search needs
 
 copy-requires : tie.Need-copy-requires
-copy-requires c κs = taps-are (c .before .before .before .before .before .before .before .before .before .before .before .before .before .before) ∙ sym (taps-lengths _ _ _ (places (c .before .before .before .before .before .before)) .0)
+copy-requires c κs = search needs
 
 slice-aggregate-copy-2 : tie.Need-slice-aggregate-copy-2
 slice-aggregate-copy-2 c = search needs
 
 copy-requires-2 : tie.Need-copy-requires-2
-copy-requires-2 c κs = samples-are (c .before .before .before .before .before .before .before .before .before .before .before .before .before .before .before .before .before .before .before) ∙ sym (taps-lengths _ _ _ (places (c .before .before .before .before .before .before .before .before .before .before .before)) .1)
+copy-requires-2 c κs = search needs
 
 cast-put-counts : tie.Need-cast-put-counts
 cast-put-counts c = search needs
@@ -80,12 +81,19 @@ same-length-9 c = search needs
 
 returns-3 : tie.Need-returns-3
 unfolding tapsCounts
-returns-3 c = let e = c .before .before .before .before .before .before .before .before .before .before .before .before .before .before .before .before .before .before in
-    let f = c .before .before .before .before .before .before .before .before .before .before .before .before .before .before .before .before .before .before .before .before .before .before .before .before .before .before .args .m .filter in
-    let cs = e .before .before .before .before .before .before .before .before .args .counts .now in
-    let three = eq-eqb (length cs) 3 (taps-lengths _ _ _ (places e) .2) in
-    made-accepted (madeView (c .before .before .before .before .before .before .before .before .before .before .before .before .before .before .before .before .before .before .before .before .before .before .before .before .before .before .args .m)) _ _ _ (places e) (c .before .before .before .before .before .before .before .before .before .before .before .before .before .before .before .before .before .if2 .left) (c .before .before .before .before .before .before .before .before .before .before .before .copy .ensures) (c .before .before .before .before .before .before .copy2 .ensures)
-    (c .before .before .put-counts .ensures .1 ∙ cond-true (eqb (length cs) 3) (f .length ∷ f .held ∷ f .window ∷ []) cs three)
+returns-3 c =
+    let copied2 : tie.After-copy2 = search in
+    let copied1 : tie.After-copy = search in
+    let e : tie.Else1 = search in
+    let start : tie.Start = search in
+    let f = start .args .m .filter in
+    let l = taps-lengths _ _ _ (places e) in
+    let cs = start .args .counts .now in
+    let taps-kept = copied1 .copy .ensures ∙ copied-same (f .taps) (start .args .taps .now) (taps-are start ∙ sym (l .0)) in
+    let samples-kept = copied2 .copy2 .ensures ∙ copied-same (f .samples) (start .args .samples .now) (samples-are start ∙ sym (l .1)) in
+    let else2 : tie.Else2 = search in
+    made-accepted (madeView (start .args .m)) _ _ _ (places e) (else2 .if2 .left) taps-kept samples-kept
+    (c .before .before .put-counts .ensures .1 ∙ cond-true (eqb (length cs) 3) (f .length ∷ f .held ∷ f .window ∷ []) cs (eq-eqb (length cs) 3 (l .2)))
 
 pub hand-out-taps-spec : {M : Type 1} → statement M
 hand-out-taps-spec =

@@ -5,7 +5,8 @@ use native.Mathlib.Omega.{arith}
 use lib.ListN.{length, replicate}
 use lib.Ieee.{ofBits}
 use Rattle.runs.specs.Runs.{plusZero}
-use Rattle.taps.proofs.Laws.{Clearing, copy-start, clear-turn, clear-done}
+use Rattle.lists.proofs.Copies.{copy-start}
+use Rattle.taps.proofs.Laws.{Clearing, clear-turn, clear-done}
 use Rattle.taps.proofs.clear.Statement.{statement}
 use Rattle.taps.proofs.clear.Tie as tie
 

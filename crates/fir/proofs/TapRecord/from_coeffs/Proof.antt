@@ -4,7 +4,8 @@ use native.Mathlib.Omega.{arith}
 use Rattle.taps.specs.Fir.{zeros}
 use Rattle.taps.specs.Lent.{capacity}
 use borrow.Author.Needs.{needs}
-use Rattle.taps.proofs.Laws.{Copying, copy-start, copy-turn, made-none, made-many, made}
+use Rattle.lists.proofs.Copies.{Copying, copy-start, copy-turn}
+use Rattle.taps.proofs.Laws.{made-none, made-many, made}
 use Rattle.fir.proofs.TapRecord.from_coeffs.Statement.{statement}
 use Rattle.fir.proofs.TapRecord.from_coeffs.Tie as tie
 

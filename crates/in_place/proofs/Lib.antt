@@ -1,0 +1,2 @@
+-- The loop of a block in place, for any filter.
+pub mod Laws

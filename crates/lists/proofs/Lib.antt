@@ -1,0 +1,2 @@
+-- Laws of copying.
+pub mod Copies

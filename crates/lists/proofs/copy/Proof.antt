@@ -1,0 +1,72 @@
+-- `lists::copy` meets its contract.
+use Prim.Native.Nat.{_≤_, _-_, min}
+use mathlib.Core.Path.{_≡_, refl}
+use mathlib.Core.Logic.{⊎-elim}
+use native.Mathlib.Omega.{arith}
+use lib.ListN.{length}
+use Rattle.lists.proofs.Copies.{Copying, copy-start, copy-turn, copied-all}
+use Rattle.lists.proofs.copy.Statement.{statement}
+use Rattle.lists.proofs.copy.Tie as tie
+
+abbrev Inv-loop : tie.InvT-loop
+Inv-loop from to₀ n i₀ to i = (n ≡ min (length from) (length to₀)) × (i ≤ n) × Copying from to₀ to i
+
+abbrev μ-loop : tie.MeasureT-loop
+μ-loop from to₀ n i₀ to i = n - i
+
+loop-holds : tie.Need-loop-holds Inv-loop μ-loop
+loop-holds c =
+    let from = c .before .args .from .now in
+    let to = c .before .args .to .now in
+    let n-is : c .if1 .n ≡ min (length from) (length to) = ⊎-elim (λ w. omega arith) (λ w. omega arith) (c .if1 .came) in
+    (n-is, omega arith, copy-start from to to refl)
+
+mul-to : tie.Need-mul-to Inv-loop μ-loop
+mul-to c = omega arith
+
+shared-slice-read-to : tie.Need-shared-slice-read-to Inv-loop μ-loop
+shared-slice-read-to c = omega arith
+
+mul-to-2 : tie.Need-mul-to-2 Inv-loop μ-loop
+mul-to-2 c = omega arith
+
+slice-write-to : tie.Need-slice-write-to Inv-loop μ-loop
+slice-write-to c = omega arith
+
+add-i : tie.Need-add-i Inv-loop μ-loop
+add-i c = omega arith
+
+loop-less : tie.Need-loop-less Inv-loop μ-loop
+loop-less c = omega arith
+
+loop-again : tie.Need-loop-again Inv-loop μ-loop
+loop-again c =
+    let a = c .before .before .before .before .args in
+    let l = c .before .before .loop in
+    (l .inv .0, omega arith, copy-turn (a .from .now) (a .to .now) (l .to) (l .i) (omega arith) (omega arith) (l .inv .2))
+
+same-length : tie.Need-same-length Inv-loop μ-loop
+same-length c = c .before .loop .inv .2 .1
+
+returns : tie.Need-returns Inv-loop μ-loop
+returns c =
+    let a = c .before .before .before .args in
+    let l = c .before .loop in
+    copied-all (a .from .now) (a .to .now) (l .to) (l .i) (omega arith) (l .inv .2)
+
+pub copy-spec : {M : Type 1} → statement M
+copy-spec =
+    tie.close
+    (tie.spec
+    Inv-loop
+    μ-loop
+    loop-holds
+    mul-to
+    shared-slice-read-to
+    mul-to-2
+    slice-write-to
+    add-i
+    loop-less
+    loop-again
+    same-length
+    returns)

@@ -1,0 +1,2 @@
+-- Lists of numbers that are copied.
+pub mod Copies

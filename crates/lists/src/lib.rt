@@ -1,0 +1,19 @@
+// What several crates do with lists of numbers.
+ghost use mathlib.Core.Path.{_≡_};
+ghost use Rattle.lists.specs.Copies.{copied};
+
+// The numbers of one slice into the first places of another, as far as both go.
+pub fn copy(from: &[f64], to: &mut [f64])
+    ensures { λ _. ⌜ now (to .exit) ≡ copied (now (from .entry)) (now (to .entry)) ⌝ }
+{
+    let n = if from.len() < to.len() {
+        from.len()
+    } else {
+        to.len()
+    };
+    let mut i: usize = 0;
+    while i < n {
+        to[i] = from[i];
+        i += 1;
+    }
+}
