@@ -57,9 +57,9 @@ module _ (K : Kind) (numbers : List Float) (counts : List ℕ) where
   blockCall input output tally =
       cond (eqb (length tally) 1) (ran output tally (lentBlock (K .filter) fitting recordOf input output)) (unchanged output tally BadCall)
 
-  -- a block in place: the block whose input and output both hold what the samples are before the call
+  -- a block in place: the block whose input and output both hold what the buffer holds before the call
   unfoldable pub blockInPlaceCall : List Float → List ℕ → Call
-  blockInPlaceCall samples tally = blockCall samples samples tally
+  blockInPlaceCall buffer tally = blockCall buffer buffer tally
 
 -- ---- a reset
 pub record Stored : Type 0 where

@@ -30,9 +30,9 @@ module _ (K : Kind) where
     blockCalled : (r : ℕ) (numbers numbers′ : List Float) (counts counts′ : List ℕ) (input output output′ : List Float) (clouded clouded′ : List ℕ)
         → record { refusal = r; numbers = numbers′; counts = counts′; answers = output′; clouded = clouded′ } ≡ blockCall K numbers counts input output clouded
         → CCall r numbers counts numbers′ counts′ (block input output) (blocked r (countShown r clouded′) output′)
-    blockInPlaceCalled : (r : ℕ) (numbers numbers′ : List Float) (counts counts′ : List ℕ) (samples samples′ : List Float) (clouded clouded′ : List ℕ)
-        → record { refusal = r; numbers = numbers′; counts = counts′; answers = samples′; clouded = clouded′ } ≡ blockInPlaceCall K numbers counts samples clouded
-        → CCall r numbers counts numbers′ counts′ (block samples samples) (blocked r (countShown r clouded′) samples′)
+    blockInPlaceCalled : (r : ℕ) (numbers numbers′ : List Float) (counts counts′ : List ℕ) (buffer buffer′ : List Float) (clouded clouded′ : List ℕ)
+        → record { refusal = r; numbers = numbers′; counts = counts′; answers = buffer′; clouded = clouded′ } ≡ blockInPlaceCall K numbers counts buffer clouded
+        → CCall r numbers counts numbers′ counts′ (block buffer buffer) (blocked r (countShown r clouded′) buffer′)
     resetCalled : (r : ℕ) (numbers numbers′ : List Float) (counts counts′ : List ℕ)
         → record { refusal = r; numbers = numbers′; counts = counts′ } ≡ resetCall K numbers counts
         → CCall r numbers counts numbers′ counts′ reset (wasReset r)

@@ -71,11 +71,11 @@ pub extern "C" fn pulse_cascade_block(
 pub extern "C" fn pulse_cascade_block_in_place(
     numbers: &mut [f64],
     counts: &mut [usize],
-    samples: &mut [f64],
+    buffer: &mut [f64],
     clouded: &mut [usize],
 ) -> u8
-    ensures { λ r. ⌜ record { refusal = r; numbers = now (numbers .exit); counts = now (counts .exit); answers = now (samples .exit); clouded = now (clouded .exit) }
-        ≡ blockInPlaceCall cascadeKind (now (numbers .entry)) (now (counts .entry)) (now (samples .entry)) (now (clouded .entry)) ⌝ }
+    ensures { λ r. ⌜ record { refusal = r; numbers = now (numbers .exit); counts = now (counts .exit); answers = now (buffer .exit); clouded = now (clouded .exit) }
+        ≡ blockInPlaceCall cascadeKind (now (numbers .entry)) (now (counts .entry)) (now (buffer .entry)) (now (clouded .entry)) ⌝ }
 {
     if clouded.len() != 1 {
         return runs::BAD_CALL;
@@ -83,13 +83,13 @@ pub extern "C" fn pulse_cascade_block_in_place(
     if !fits(numbers, counts) {
         return runs::BAD_CALL;
     }
-    let b = cascade_block(read(numbers, counts), samples);
-    let refusal = b.refusal;
+    let ran = cascade_block(read(numbers, counts), buffer);
+    let refusal = ran.refusal;
     if refusal != 0 {
         return refusal;
     }
-    write(b.cascade, numbers, counts);
-    clouded[0] = b.clouded;
+    write(ran.cascade, numbers, counts);
+    clouded[0] = ran.clouded;
     0
 }
 

@@ -92,13 +92,13 @@ pub extern "C" fn pulse_fir_block_in_place(
     if counts.len() != COUNTS {
         return runs::BAD_CALL;
     }
-    let b = fir_block(taps, samples, counts[0], counts[1], counts[2], buffer);
-    let refusal = b.refusal;
+    let ran = fir_block(taps, samples, counts[0], counts[1], counts[2], buffer);
+    let refusal = ran.refusal;
     if refusal != 0 {
         return refusal;
     }
-    counts[1] = b.held;
-    clouded[0] = b.clouded;
+    counts[1] = ran.held;
+    clouded[0] = ran.clouded;
     0
 }
 

@@ -13,19 +13,19 @@ use cascade::Cascade;
 use lists::copy;
 
 // A part, from a copy to its places.
-fn cascade_part(c: Cascade, samples: &mut [f64]) -> Blocked
-    requires { ⌜ length (now samples) ≤ 256 ⌝ }
-    ensures { λ r. ⌜ blockView r (now (samples .exit)) ≡ block (cascade binary64) (cascadeView c) (now (samples .entry)) (now (samples .entry)) ⌝ }
+fn cascade_part(c: Cascade, buffer: &mut [f64]) -> Blocked
+    requires { ⌜ length (now buffer) ≤ 256 ⌝ }
+    ensures { λ r. ⌜ blockView r (now (buffer .exit)) ≡ block (cascade binary64) (cascadeView c) (now (buffer .entry)) (now (buffer .entry)) ⌝ }
 {
-    let n = samples.len();
+    let n = buffer.len();
     let mut input = no_samples();
-    copy(samples, &mut input);
-    c.block(&input[..n], samples)
+    copy(buffer, &mut input);
+    c.block(&input[..n], buffer)
 }
 
-// `Cascade::block` with these samples as its input, and as what its output holds before it.
-pub fn cascade_block(c: Cascade, samples: &mut [f64]) -> Blocked
-    ensures { λ r. ⌜ blockView r (now (samples .exit)) ≡ block (cascade binary64) (cascadeView c) (now (samples .entry)) (now (samples .entry)) ⌝ }
+// `Cascade::block` with what the buffer holds as its input, and as what its output holds before it.
+pub fn cascade_block(c: Cascade, buffer: &mut [f64]) -> Blocked
+    ensures { λ r. ⌜ blockView r (now (buffer .exit)) ≡ block (cascade binary64) (cascadeView c) (now (buffer .entry)) (now (buffer .entry)) ⌝ }
 {
     if !c.check() {
         return Blocked {
@@ -37,9 +37,9 @@ pub fn cascade_block(c: Cascade, samples: &mut [f64]) -> Blocked
     let mut cascade = c;
     let mut clouded: usize = 0;
     let mut from: usize = 0;
-    while from < samples.len() {
-        let to = part_end(from, samples.len());
-        let b = cascade_part(cascade, &mut samples[from..to]);
+    while from < buffer.len() {
+        let to = part_end(from, buffer.len());
+        let b = cascade_part(cascade, &mut buffer[from..to]);
         cascade = b.cascade;
         clouded += b.clouded;
         from = to;

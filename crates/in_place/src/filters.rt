@@ -31,7 +31,7 @@ fn fir_part(
     block(taps, samples, n, held, window, &input[..k], part)
 }
 
-// `blocks::block` with these as its input, and as what its output holds before it.
+// `blocks::block` with what the buffer holds as its input, and as what its output holds before it.
 pub fn fir_block(
     taps: &[f64],
     samples: &mut [f64],

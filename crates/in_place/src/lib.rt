@@ -1,4 +1,4 @@
-// Blocks in place: the samples of a lent slice become their answers. A part of them at a time is copied, and goes as a block
+// Blocks in place: the samples of a lent buffer become their answers. A part of them at a time is copied, and goes as a block
 // of its own from the copy to its places. Added.
 mod cascades;
 mod filters;

@@ -28,9 +28,9 @@ else2 r = r .before .before .before .before .before
 
 ran : (r : tie.After-cascade-block) → let a = start (else1 (else2 r)) .args in
     blockView (r .cascade-block .result) (r .cascade-block .last .1 .0)
-    ≡ lentBlock (cascadeKind .filter) (fitting cascadeKind (a .numbers .now) (a .counts .now)) (recordOf cascadeKind (a .numbers .now) (a .counts .now)) (a .samples .now) (a .samples .now)
+    ≡ lentBlock (cascadeKind .filter) (fitting cascadeKind (a .numbers .now) (a .counts .now)) (recordOf cascadeKind (a .numbers .now) (a .counts .now)) (a .buffer .now) (a .buffer .now)
 ran r = let a = start (else1 (else2 r)) .args in
-    lend-block cascadeKind (a .numbers .now) (a .counts .now) (fit (else2 r)) (read-is _ _ (fit (else2 r)) (r .before .before .read .ensures)) (a .samples .now) (a .samples .now) (r .cascade-block .ensures)
+    lend-block cascadeKind (a .numbers .now) (a .counts .now) (fit (else2 r)) (read-is _ _ (fit (else2 r)) (r .before .before .read .ensures)) (a .buffer .now) (a .buffer .now) (r .cascade-block .ensures)
 
 returns : tie.Need-returns
 unfolding blockInPlaceCall

@@ -42,8 +42,8 @@ start c = at-loop c .before .before .before .before
 
 turned : (c : tie.After-struct-known Inv-loop μ-loop)
     → (let l = at-loop c .loop in let b = part c .cascade-part in let from = l .from in let to = ended c .part-end .result in
-    InPlace (cascade binary64) (cascadeView (start c .args .c)) (start c .args .samples .now) (cascadeView (b .result .cascade))
-    (take from (l .samples) ++ (b .last .1 .0 ++ drop (to - from) (drop from (l .samples)))) (l .clouded + b .result .clouded) to)
+    InPlace (cascade binary64) (cascadeView (start c .args .c)) (start c .args .buffer .now) (cascadeView (b .result .cascade))
+    (take from (l .buffer) ++ (b .last .1 .0 ++ drop (to - from) (drop from (l .buffer)))) (l .clouded + b .result .clouded) to)
 turned c =
     let e = ended c .part-end .ensures in
     let l = at-loop c .loop in
@@ -56,7 +56,7 @@ returns : tie.Need-returns Inv-loop μ-loop
 returns c =
     let start : tie.Start Inv-loop μ-loop = search in
     let s = cascadeView (start .args .c) in
-    block-refused (cascade binary64) s (start .args .samples .now) (start .args .samples .now) (sym (c .before .check .ensures) ∙ not-true _ (c .if1 .taken))
+    block-refused (cascade binary64) s (start .args .buffer .now) (start .args .buffer .now) (sym (c .before .check .ensures) ∙ not-true _ (c .if1 .taken))
 
 loop-holds : tie.Need-loop-holds Inv-loop μ-loop
 loop-holds c = place-start (cascade binary64) (check-next binary64) _ _ (good c)

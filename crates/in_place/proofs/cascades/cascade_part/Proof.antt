@@ -15,10 +15,10 @@ use Rattle.in_place.proofs.cascades.cascade_part.Tie as tie
 abbrev start : tie.After-copy → tie.Start
 start c = c .before .before .before .before .before
 
-lent : (c : tie.After-copy) → take (length (start c .args .samples .now)) (c .copy .last .1 .0) ≡ start c .args .samples .now
+lent : (c : tie.After-copy) → take (length (start c .args .buffer .now)) (c .copy .last .1 .0) ≡ start c .args .buffer .now
 lent c =
     let made : tie.After-no-samples = search in
-    copy-lent (start c .args .samples .now) (made .no-samples .result) (c .copy .last .1 .0) (made .no-samples .ensures) (start c .pre) (c .copy .ensures)
+    copy-lent (start c .args .buffer .now) (made .no-samples .result) (c .copy .last .1 .0) (made .no-samples .ensures) (start c .pre) (c .copy .ensures)
 
 no-samples-requires : tie.Need-no-samples-requires
 no-samples-requires c κs = search needs
@@ -48,7 +48,7 @@ returns c =
     let ran : tie.After-block = search in
     let copied : tie.After-copy = search in
     let a = start copied .args in
-    ran .block .ensures ∙ ap (λ (l : List Float). block (cascade binary64) (cascadeView (a .c)) l (a .samples .now)) (lent copied)
+    ran .block .ensures ∙ ap (λ (l : List Float). block (cascade binary64) (cascadeView (a .c)) l (a .buffer .now)) (lent copied)
 
 pub cascade-part-spec : {M : Type 1} → statement M
 cascade-part-spec =
