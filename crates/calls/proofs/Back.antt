@@ -64,15 +64,19 @@ cascade-read-back = record {
 
 -- ---- a tap record with these taps: its slices have as many places as the capacity
 
+pub taps-fit : (taps samples : List Float) (counts : List ℕ) → tapsFit taps samples counts ≡ true → fits capacity (tapsAt taps samples counts) ≡ true
+unfolding tapsFit
+taps-fit taps samples counts h = both (eqb (length counts) 3) _ h .1
+
 pub taps-back : (taps : List Float) (r : TapsRecord) → r .taps ≡ taps → fits capacity r ≡ true → (tapsAt taps (r .samples) (tapsCounts r) ≡ r) × (tapsFit taps (r .samples) (tapsCounts r) ≡ true)
 unfolding tapsAt tapsCounts tapsFit
 taps-back taps r e h = (rw (← e), rw (← e) h)
 
 pub fir-read-back : (taps : List Float) → ReadBack (firKind taps)
-unfolding tapsAt tapsFit Fir.next clearedTaps
+unfolding tapsAt Fir.next clearedTaps
 fir-read-back taps = record {
   Good = λ r. (r .taps ≡ taps) × (fits capacity r ≡ true);
-  good-read = λ samples counts fit. (refl, both (eqb (length counts) 3) _ fit .1);
+  good-read = λ samples counts fit. (refl, taps-fit taps samples counts fit);
   good-next = λ r x h g. (g .0, fits-next capacity r x (g .1) h);
   good-cleared = λ r g. (g .0, lengths-fit capacity (clearedTaps capacity r) (fits-lengths capacity r (g .1) .0) (length-replicate capacity plusZero));
   keeps = Taps.check-next capacity;

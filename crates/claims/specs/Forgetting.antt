@@ -1,19 +1,21 @@
 -- Demand 3 at f64, of every record that the code can have. Definitions only.
 use mathlib.Core.List.{List}
 use lib.Ieee.{binary64}
-use Rattle.runs.specs.Forgetting.{Call}
+use Rattle.runs.specs.Forgetting.{Call, run}
 use Rattle.plain.specs.Cascade.{CascadeForgets}
+use Rattle.cascade.specs.Cascade.{cascade}
 use Rattle.cascade.specs.View.{cascadeView}
 use Rattle.cascade.specs.declared.Cascade.{Cascade}
 use Rattle.plain.specs.Fir.{FirForgets}
+use Rattle.taps.specs.Fir.{fir}
 use Rattle.taps.specs.Lent.{capacity}
 use Rattle.fir.specs.View.{tapsView}
 use Rattle.fir.specs.declared.TapRecord.{TapRecord}
 
 -- every list of steps, blocks and resets that starts at this cascade
 pub record CascadeRule (start : Cascade) : Type 0 where
-  pub of : (calls : List Call) → CascadeForgets binary64 (cascadeView start) calls
+  pub of : (calls : List Call) → CascadeForgets binary64 (cascadeView start) calls (run (cascade binary64) (cascadeView start) calls)
 
 -- and at this tap record
 pub record FirRule (start : TapRecord) : Type 0 where
-  pub of : (calls : List Call) → FirForgets capacity binary64 (tapsView start) calls
+  pub of : (calls : List Call) → FirForgets capacity binary64 (tapsView start) calls (run (fir capacity binary64) (tapsView start) calls)

@@ -5,4 +5,5 @@ pub mod Decimals
 pub mod Refused
 pub mod Fresh
 pub mod Forgetting
+pub mod Lists
 pub mod Sheet

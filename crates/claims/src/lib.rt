@@ -18,6 +18,7 @@ ghost use Rattle.claims.specs.Decimals.{DecimalsAreNearest};
 ghost use Rattle.claims.specs.Refused.{RefusedByCheck};
 ghost use Rattle.claims.specs.Fresh.{AcceptedIsFresh};
 ghost use Rattle.claims.specs.Forgetting.{CascadeRule, FirRule};
+ghost use Rattle.claims.specs.Lists.{CascadeCallsRule, FirCallsRule, CCascadeRule, CFirRule};
 ghost use Rattle.claims.specs.Sheet.{ReleaseSheet};
 use cascade::Cascade;
 use fir::TapRecord;
@@ -89,6 +90,27 @@ pub fn fir_forgets(start: TapRecord)
 // A design of any kind is refused by the number that its check gives.
 pub fn designs_are_refused_by_their_checks()
     ensures { λ _. ⌜ RefusedByCheck ⌝ }
+{}
+
+// Demand 3 of lists of calls of the code: `Cascade::update`, `block` and `reset`, each on the record that the call before it
+// returned.
+pub fn cascade_calls_forget(start: Cascade)
+    ensures { λ _. ⌜ CascadeCallsRule start ⌝ }
+{}
+
+// The same of `TapRecord::update`, `block` and `reset`.
+pub fn fir_calls_forget(start: TapRecord)
+    ensures { λ _. ⌜ FirCallsRule start ⌝ }
+{}
+
+// Demand 3 of lists of calls of the C library on one cascade: steps, blocks, blocks in place and resets.
+pub fn c_cascade_calls_forget()
+    ensures { λ _. ⌜ CCascadeRule ⌝ }
+{}
+
+// The same on one tap record.
+pub fn c_fir_calls_forget()
+    ensures { λ _. ⌜ CFirRule ⌝ }
 {}
 
 // What an accepted design, set of ready-made taps or reset returns is fresh.

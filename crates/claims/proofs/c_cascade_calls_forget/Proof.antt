@@ -1,0 +1,23 @@
+-- `claims::c_cascade_calls_forget` meets its contract.
+use lib.Ieee.{binary64}
+use Rattle.runs.proofs.Forgetting.{forgets-shown}
+use Rattle.cascade.specs.Cascade.{cascade}
+use Rattle.plain.specs.Cascade.{plainCascade, coefficientsOf}
+use Rattle.plain.proofs.Cascade.{forgets}
+use Rattle.layout.specs.Layout.{cascadeAt}
+use Rattle.calls.specs.Kinds.{cascadeKind}
+use Rattle.calls.proofs.Lists.{c-calls-run}
+use Rattle.calls.proofs.Back.{cascade-read-back}
+use Rattle.claims.proofs.c_cascade_calls_forget.Statement.{statement}
+use Rattle.claims.proofs.c_cascade_calls_forget.Tie as tie
+
+returns : tie.Need-returns
+returns c = record {
+  shows = λ numbers counts calls outcomes l. c-calls-run cascadeKind cascade-read-back l;
+  forgets = λ numbers counts calls outcomes l.
+      let s = cascadeAt numbers counts in
+      forgets-shown (cascade binary64) (plainCascade binary64) coefficientsOf s calls (c-calls-run cascadeKind cascade-read-back l) (forgets binary64 s calls);
+}
+
+pub c-cascade-calls-forget-spec : {M : Type 1} → statement M
+c-cascade-calls-forget-spec = tie.close (tie.spec returns)
