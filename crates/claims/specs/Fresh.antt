@@ -1,5 +1,6 @@
 -- 01 "Forgetting rule": what an accepted design, set of ready-made taps or reset returns is fresh. Definitions only.
 use mathlib.Core.Path.{_≡_}
+use mathlib.Core.Bool.{true}
 use mathlib.Core.List.{List}
 use Prim.Native.Nat.{ℕ}
 use lib.Ieee.{Float, binary64}
@@ -13,6 +14,12 @@ use Rattle.designs.specs.LowPass.{butterworthLp, butterworthHp, chebyshev1Lp, c
 use Rattle.designs.specs.BandPass.{butterworthBp}
 use Rattle.windows.specs.Fir.{firLp}
 use Rattle.windows.specs.declared.WindowType.{WindowType}
+use Rattle.runs.specs.Refusals.{Accepted}
+use Rattle.taps.specs.Fir.{Made}
+use Rattle.designs.specs.Design.{DesignRecord}
+use Rattle.layout.specs.Layout.{cascadeAt, cascadeFits}
+use Rattle.calls.specs.Kinds.{tapsAt, tapsFit}
+use Rattle.calls.specs.Calls.{designCall, TapsStored, madeCall, firCall}
 
 pub record AcceptedIsFresh : Type 0 where
   pub lowPass : (n : ℕ) (cutoff rate : Float) → butterworthLp n cutoff rate .refusal ≡ 0 → FreshCascade (butterworthLp n cutoff rate .cascade)
@@ -24,3 +31,21 @@ pub record AcceptedIsFresh : Type 0 where
   pub readyMade : (taps : List Float) → fromCoeffs capacity taps .refusal ≡ 0 → FreshTaps (fromCoeffs capacity taps .filter)
   pub cascadeReset : (c : CascadeRecord) → reset (cascade binary64) c .refusal ≡ 0 → FreshCascade (reset (cascade binary64) c .state)
   pub firReset : (r : TapsRecord) → reset (fir capacity binary64) r .refusal ≡ 0 → FreshTaps (reset (fir capacity binary64) r .state)
+
+-- ---- through the C library: what an accepted call that makes a filter leaves in the slices fits, and is fresh. Each premise is the call's contract, word for word.
+abbrev pub CascadeMade : DesignRecord → Type 0
+CascadeMade d = (numbers numbers′ : List Float) (counts counts′ : List ℕ) → record { refusal = Accepted; numbers = numbers′; counts = counts′ } ≡ designCall d numbers counts
+    → (cascadeFits numbers′ counts′ ≡ true) × FreshCascade (cascadeAt numbers′ counts′)
+
+abbrev pub TapsMade : (List Float → List Float → List ℕ → TapsStored) → Type 0
+TapsMade call = (taps taps′ samples samples′ : List Float) (counts counts′ : List ℕ) → record { refusal = Accepted; taps = taps′; samples = samples′; counts = counts′ } ≡ call taps samples counts
+    → (tapsFit taps′ samples′ counts′ ≡ true) × FreshTaps (tapsAt taps′ samples′ counts′)
+
+pub record CMadeIsFresh : Type 0 where
+  pub lowPass : (n : ℕ) (cutoff rate : Float) → CascadeMade (butterworthLp n cutoff rate)
+  pub highPass : (n : ℕ) (cutoff rate : Float) → CascadeMade (butterworthHp n cutoff rate)
+  pub chebyshevI : (n : ℕ) (cutoff db rate : Float) → CascadeMade (chebyshev1Lp n cutoff db rate)
+  pub chebyshevII : (n : ℕ) (cutoff db rate : Float) → CascadeMade (chebyshev2Lp n cutoff db rate)
+  pub bandPass : (n : ℕ) (low high rate : Float) → CascadeMade (butterworthBp n low high rate)
+  pub firLowPass : (n : ℕ) (cutoff : Float) (window : ℕ) → TapsMade (λ taps samples counts. firCall taps samples counts n cutoff window)
+  pub readyMade : (coeffs : List Float) → TapsMade (λ taps samples counts. madeCall taps samples counts (fromCoeffs capacity coeffs))

@@ -16,7 +16,7 @@ ghost use Rattle.claims.specs.Ieee.{MeetsIeee754, Determined, OverflowsA
 ghost use Rattle.claims.specs.Elementary.{NearestIsNearest, LnSplits, constantsOf};
 ghost use Rattle.claims.specs.Decimals.{DecimalsAreNearest};
 ghost use Rattle.claims.specs.Refused.{RefusedByCheck};
-ghost use Rattle.claims.specs.Fresh.{AcceptedIsFresh};
+ghost use Rattle.claims.specs.Fresh.{AcceptedIsFresh, CMadeIsFresh};
 ghost use Rattle.claims.specs.Forgetting.{CascadeRule, FirRule};
 ghost use Rattle.claims.specs.Lists.{CascadeCallsRule, FirCallsRule, CCascadeRule, CFirRule};
 ghost use Rattle.claims.specs.Sheet.{ReleaseSheet};
@@ -116,6 +116,11 @@ pub fn c_fir_calls_forget()
 // What an accepted design, set of ready-made taps or reset returns is fresh.
 pub fn accepted_designs_are_fresh()
     ensures { λ _. ⌜ AcceptedIsFresh ⌝ }
+{}
+
+// Of a filter that a C function made: the record in the caller's slices fits and is fresh.
+pub fn c_made_filters_are_fresh()
+    ensures { λ _. ⌜ CMadeIsFresh ⌝ }
 {}
 
 // The fourteen calculations on the release sheet.

@@ -1,0 +1,178 @@
+-- `claims::c_made_filters_are_fresh` meets its contract: what was written is read back.
+use mathlib.Core.Path.{_≡_, refl, sym, ap, ap₂, _∙_}
+use mathlib.Core.Bool.{Bool, true, false, cond}
+use mathlib.Core.List.{List, [], _∷_}
+use Prim.Native.Nat.{ℕ, zero, suc, _/_, _≤_}
+use native.Mathlib.Omega.{arith}
+use lib.Dec.{eqb, leb}
+use lib.ListN.{length, length-append, length-replicate}
+use lib.Ieee.{Float, binary64}
+use borrow.Author.Tests.{eqb-true, eqb-false}
+use Rattle.runs.specs.Refusals.{Accepted, InvalidOrder, BadCall, orderRefused}
+use Rattle.runs.specs.Runs.{plusZero}
+use Rattle.sections.specs.Section.{Biquad}
+use Rattle.cascade.specs.Cascade.{CascadeRecord}
+use Rattle.cascade.specs.View.{FreshCascade}
+use Rattle.taps.specs.Fir.{TapsRecord, Made, ReadyMade, Blackman, blankTaps, holding, fromCoeffs}
+use Rattle.taps.specs.Lent.{capacity, fits}
+use Rattle.taps.proofs.Laws.{sizes, lengths-fit}
+use Rattle.taps.proofs.Fresh.{ready-made-fresh}
+use Rattle.fir.specs.View.{FreshTaps}
+use Rattle.scalar.specs.Operators.{_⊖_, _⊗_}
+use Rattle.checks.specs.Checks.{validateParams, validateChebyshev, validateBand, validateFir}
+use Rattle.checks.specs.Lists.{upTo}
+use Rattle.windows.specs.Fir.{codeOf, firTaps, firLp}
+use Rattle.windows.specs.declared.WindowType.{WindowType}
+use Rattle.windows.proofs.Fresh.{fir-fresh}
+use Rattle.designs.specs.Design.{DesignRecord, padded, unlessRefused, accepted, refusedDesign}
+use Rattle.designs.specs.Butterworth.{warped}
+use Rattle.designs.specs.Chebyshev.{cheb1Prototype, cheb2Prototype}
+use Rattle.designs.specs.Prototype.{pairOf, prototypeCascade}
+use Rattle.designs.specs.declared.prototype.Prototype.{Prototype}
+use Rattle.designs.specs.declared.prototype.Prototype.the-variants.{ButterworthLow, ButterworthHigh}
+use Rattle.designs.specs.LowPass.{butterworthLp, butterworthHp, chebyshev1Lp, chebyshev2Lp}
+use Rattle.designs.specs.BandPass.{bpSections, bpCascade, butterworthBp}
+use Rattle.designs.proofs.Fresh.{butterworth-lp-fresh, butterworth-hp-fresh, chebyshev1-fresh, chebyshev2-fresh, bandpass-fresh}
+use Rattle.layout.specs.Layout.{cascadeAt, cascadePlaces, cascadeFits, cascadeNumbers, cascadeCounts}
+use Rattle.calls.specs.Kinds.{tapsAt, tapsCounts, tapsFit}
+use Rattle.calls.specs.Calls.{Stored, designCall, notStored, TapsStored, tapsPlaces, tapsUnchanged, madeCall, firCall, windowOf}
+use Rattle.calls.proofs.Back.{cascade-back, taps-back}
+use Rattle.claims.specs.Fresh.{CascadeMade, TapsMade}
+use Rattle.claims.proofs.c_made_filters_are_fresh.Statement.{statement}
+use Rattle.claims.proofs.c_made_filters_are_fresh.Tie as tie
+
+-- ---- cascades
+
+-- a design whose cascade has four sections
+cascade-made : (d : DesignRecord) → length (d .cascade .sections) ≡ 4 → (d .refusal ≡ 0 → FreshCascade (d .cascade)) → CascadeMade d
+unfolding designCall
+cascade-made d four fresh numbers numbers′ counts counts′ e = go (cascadePlaces numbers counts) (eqb (d .refusal) 0) refl refl
+  where
+    done : Bool → Bool → Stored
+    done a b =
+        cond a (cond b (record { refusal = Accepted; numbers = cascadeNumbers (d .cascade); counts = cascadeCounts (d .cascade) }) (notStored numbers counts (d .refusal)))
+        (notStored numbers counts BadCall)
+
+    go : (a b : Bool) → cascadePlaces numbers counts ≡ a → eqb (d .refusal) 0 ≡ b → (cascadeFits numbers′ counts′ ≡ true) × FreshCascade (cascadeAt numbers′ counts′)
+    go false b p q = absurd (bad (ap (λ (z : Stored). z .refusal) (e ∙ ap₂ done p q)))
+      where
+        bad : _≡_ {A = ℕ} 0 13 → ⊥
+        bad e = omega arith
+    go true false p q = absurd (eqb-false (d .refusal) 0 q (sym (ap (λ (z : Stored). z .refusal) (e ∙ ap₂ done p q))))
+    go true true p q =
+        let z = e ∙ ap₂ done p q in
+        let back = cascade-back (d .cascade) four in
+        let en : numbers′ ≡ cascadeNumbers (d .cascade) = ap (λ (s : Stored). s .numbers) z in
+        let ec : counts′ ≡ cascadeCounts (d .cascade) = ap (λ (s : Stored). s .counts) z in
+        (ap₂ cascadeFits en ec ∙ back .1, rw (en, ec, back .0) (fresh (eqb-true (d .refusal) 0 q)))
+
+padded-length : (p : ℕ) (ss : List Biquad) → length (padded p ss) ≡ p
+unfolding padded
+padded-length zero ss = refl
+padded-length (suc p) [] = ap suc (padded-length p [])
+padded-length (suc p) (s ∷ ss) = ap suc (padded-length p ss)
+
+four-sections : (v : ℕ) (c : CascadeRecord) → length (c .sections) ≡ 4 → length (unlessRefused v c .cascade .sections) ≡ 4
+four-sections v c h = go (eqb v 0)
+  where
+    go : (b : Bool) → length (cond b (accepted c) (refusedDesign v) .cascade .sections) ≡ 4
+    go true = h
+    go false = refl
+
+-- the designs of poles, and the band pass
+prototype-made : (v : ℕ) (p : Prototype) (n : ℕ) (d : DesignRecord) → d ≡ unlessRefused v (prototypeCascade p n) → (d .refusal ≡ 0 → FreshCascade (d .cascade)) → CascadeMade d
+unfolding prototypeCascade
+prototype-made v p n d e fresh = cascade-made d (ap (λ (r : DesignRecord). length (r .cascade .sections)) e ∙ four-sections v (prototypeCascade p n) (padded-length 4 (upTo (pairOf p n) (n / 2)))) fresh
+
+band-made : (v n : ℕ) (wl wh : Float) (d : DesignRecord) → d ≡ unlessRefused v (bpCascade n wl wh) → (d .refusal ≡ 0 → FreshCascade (d .cascade)) → CascadeMade d
+unfolding bpCascade
+band-made v n wl wh d e fresh = cascade-made d (ap (λ (r : DesignRecord). length (r .cascade .sections)) e ∙ four-sections v (bpCascade n wl wh) (padded-length 4 (bpSections n (wh ⊖ wl) (wl ⊗ wh)))) fresh
+
+-- ---- tap records
+
+holding-fits : (ts : List Float) (w : ℕ) → length ts ≤ capacity → fits capacity (holding capacity ts w) ≡ true
+unfolding holding
+holding-fits ts w h = lengths-fit capacity _ (simp (length-append, length-replicate) (omega arith)) (length-replicate capacity plusZero)
+
+held-few : (ts : List Float) (w : ℕ) → FreshTaps (holding capacity ts w) → length ts ≤ capacity
+unfolding holding
+held-few ts w f = sizes capacity (holding capacity ts w) (f .checked) .within
+
+-- a record that was made of some taps
+taps-made : (m : Made) (ts : List Float) (w : ℕ) → (m .refusal ≡ 0 → m .filter ≡ holding capacity ts w) → (m .refusal ≡ 0 → FreshTaps (m .filter))
+    → TapsMade (λ taps samples counts. madeCall taps samples counts m)
+unfolding madeCall
+taps-made m ts w is fresh taps taps′ samples samples′ counts counts′ e = go (tapsPlaces taps samples counts) (eqb (m .refusal) 0) refl refl
+  where
+    done : Bool → Bool → TapsStored
+    done a b =
+        cond a (cond b (record { refusal = Accepted; taps = m .filter .taps; samples = m .filter .samples; counts = tapsCounts (m .filter) }) (tapsUnchanged taps samples counts (m .refusal)))
+        (tapsUnchanged taps samples counts BadCall)
+
+    go : (a b : Bool) → tapsPlaces taps samples counts ≡ a → eqb (m .refusal) 0 ≡ b → (tapsFit taps′ samples′ counts′ ≡ true) × FreshTaps (tapsAt taps′ samples′ counts′)
+    go false b p q = absurd (bad (ap (λ (z : TapsStored). z .refusal) (e ∙ ap₂ done p q)))
+      where
+        bad : _≡_ {A = ℕ} 0 13 → ⊥
+        bad e = omega arith
+    go true false p q = absurd (eqb-false (m .refusal) 0 q (sym (ap (λ (z : TapsStored). z .refusal) (e ∙ ap₂ done p q))))
+    go true true p q =
+        let z = e ∙ ap₂ done p q in
+        let ok = eqb-true (m .refusal) 0 q in
+        let few : length ts ≤ capacity = held-few ts w (rw (is ok) at (fresh ok)) in
+        let fit : fits capacity (m .filter) ≡ true = rw (is ok) (holding-fits ts w few) in
+        let back = taps-back (m .filter .taps) (m .filter) refl fit in
+        let et : taps′ ≡ m .filter .taps = ap (λ (s : TapsStored). s .taps) z in
+        let es : samples′ ≡ m .filter .samples = ap (λ (s : TapsStored). s .samples) z in
+        let ec : counts′ ≡ tapsCounts (m .filter) = ap (λ (s : TapsStored). s .counts) z in
+        rw (et, es, ec) (back .1, rw (back .0) (fresh ok))
+
+ready-is : (ts : List Float) → fromCoeffs capacity ts .refusal ≡ 0 → fromCoeffs capacity ts .filter ≡ holding capacity ts ReadyMade
+unfolding fromCoeffs
+ready-is ts = go (orderRefused (length ts) capacity)
+  where
+    go : (b : Bool) → (let m : Made = cond b (record { refusal = InvalidOrder; filter = blankTaps capacity }) (record { refusal = Accepted; filter = holding capacity ts ReadyMade }) in m .refusal ≡ 0 → m .filter ≡ holding capacity ts ReadyMade)
+    go true e = absurd (one e)
+      where
+        one : _≡_ {A = ℕ} 1 0 → ⊥
+        one e = omega arith
+    go false e = refl
+
+designed-is : (n : ℕ) (cutoff : Float) (w : WindowType) → firLp n cutoff w .refusal ≡ 0 → firLp n cutoff w .filter ≡ holding capacity (firTaps w n cutoff) (codeOf w)
+unfolding firLp
+designed-is n cutoff w = go (eqb (validateFir n cutoff) 0) refl
+  where
+    go : (b : Bool) → eqb (validateFir n cutoff) 0 ≡ b → (let m : Made = cond b (record { refusal = Accepted; filter = holding capacity (firTaps w n cutoff) (codeOf w) }) (record { refusal = validateFir n cutoff; filter = blankTaps capacity }) in m .refusal ≡ 0 → m .filter ≡ holding capacity (firTaps w n cutoff) (codeOf w))
+    go true e r = refl
+    go false e r = absurd (eqb-false (validateFir n cutoff) 0 e r)
+
+designed-made : (n : ℕ) (cutoff : Float) (window : ℕ) → TapsMade (λ taps samples counts. firCall taps samples counts n cutoff window)
+unfolding firCall
+designed-made n cutoff window taps taps′ samples samples′ counts counts′ e = go (leb window Blackman) refl
+  where
+    called : Bool → TapsStored
+    called b = cond b (madeCall taps samples counts (firLp n cutoff (windowOf window))) (tapsUnchanged taps samples counts BadCall)
+
+    go : (b : Bool) → leb window Blackman ≡ b → (tapsFit taps′ samples′ counts′ ≡ true) × FreshTaps (tapsAt taps′ samples′ counts′)
+    go true p =
+        let m = firLp n cutoff (windowOf window) in
+        taps-made m (firTaps (windowOf window) n cutoff) (codeOf (windowOf window)) (designed-is n cutoff (windowOf window)) (fir-fresh n cutoff (windowOf window)) taps taps′ samples samples′ counts counts′
+        (e ∙ ap called p)
+    go false p = absurd (bad (ap (λ (z : TapsStored). z .refusal) (e ∙ ap called p)))
+      where
+        bad : _≡_ {A = ℕ} 0 13 → ⊥
+        bad e = omega arith
+
+returns : tie.Need-returns
+unfolding butterworthLp butterworthHp chebyshev1Lp chebyshev2Lp butterworthBp
+returns c = record {
+  lowPass = λ n cutoff rate. prototype-made (validateParams cutoff rate n) (ButterworthLow (warped cutoff rate)) n _ refl (butterworth-lp-fresh n cutoff rate);
+  highPass = λ n cutoff rate. prototype-made (validateParams cutoff rate n) (ButterworthHigh (warped cutoff rate)) n _ refl (butterworth-hp-fresh n cutoff rate);
+  chebyshevI = λ n cutoff db rate. prototype-made (validateChebyshev cutoff db rate n) (cheb1Prototype n db (warped cutoff rate)) n _ refl (chebyshev1-fresh n cutoff db rate);
+  chebyshevII = λ n cutoff db rate. prototype-made (validateChebyshev cutoff db rate n) (cheb2Prototype n db (warped cutoff rate)) n _ refl (chebyshev2-fresh n cutoff db rate);
+  bandPass = λ n low high rate. band-made (validateBand low high rate n) n (warped low rate) (warped high rate) _ refl (bandpass-fresh n low high rate);
+  firLowPass = designed-made;
+  readyMade = λ coeffs. taps-made (fromCoeffs capacity coeffs) coeffs ReadyMade (ready-is coeffs) (ready-made-fresh capacity binary64 coeffs);
+}
+
+pub c-made-filters-are-fresh-spec : {M : Type 1} → statement M
+c-made-filters-are-fresh-spec = tie.close (tie.spec returns)
