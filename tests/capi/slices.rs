@@ -81,8 +81,15 @@ impl Slices {
     }
 
     fn floats(&self) -> [(&'static str, &[f64]); 7] {
-        let state = (("numbers", &self.numbers[..]), ("taps", &self.taps[..]), ("samples", &self.samples[..]));
-        [state.0, state.1, state.2, ("input", &self.input), ("output", &self.output), ("buffer", &self.buffer), ("answer", &self.answer)]
+        [
+            ("numbers", &self.numbers),
+            ("taps", &self.taps),
+            ("samples", &self.samples),
+            ("input", &self.input),
+            ("output", &self.output),
+            ("buffer", &self.buffer),
+            ("answer", &self.answer),
+        ]
     }
 
     fn wholes(&self) -> [(&'static str, &[usize]); 3] {
