@@ -187,9 +187,11 @@ static int request(FILE *list, size_t line) {
     if (head[0] > FIR_RESET)
         return 0;
     const char *wrong = called(head[0], head[1], &n);
-    if (!wrong && n == head[2] && memcmp(expected, given, n * sizeof *given) == 0)
+    if (n != head[2] || memcmp(expected, given, n * sizeof *given))
+        wrong = "another answer";
+    if (!wrong)
         return 1;
-    printf("request %zu, kind %" PRIu64 ": %s; expected and given:\n", line, head[0], wrong ? wrong : "another answer");
+    printf("request %zu, kind %" PRIu64 ": %s; expected and given:\n", line, head[0], wrong);
     for (size_t i = 0; i < head[2] || i < n; i++)
         printf("%016" PRIX64 " %016" PRIX64 "\n", i < head[2] ? expected[i] : 0, i < n ? given[i] : 0);
     return -1;
