@@ -10,6 +10,7 @@ use std::time::Instant;
 const SAMPLES: usize = 16_384;
 const DESIGNS: usize = 500;
 const BLOCK: usize = 256;
+const BUFFER: usize = 4_096;
 const CUTOFF: f64 = 1000.0;
 const RATE: f64 = 10_000.0;
 const RIPPLE: f64 = 0.5;
@@ -36,7 +37,13 @@ struct Bench {
 }
 
 impl Bench {
+    /// The samples in the output too, for the sides in place.
+    fn fill(&mut self) {
+        self.output.copy_from_slice(&self.input);
+    }
+
     fn bits(&mut self, run: &mut Run) -> Vec<u64> {
+        self.fill();
         run(&self.input, &mut self.output);
         self.output.iter().map(|y| y.to_bits()).collect()
     }
@@ -53,6 +60,7 @@ impl Bench {
         let mut best = [f64::INFINITY; N];
         for _ in 0..self.rounds {
             for (side, best) in sides.iter_mut().zip(&mut best) {
+                self.fill();
                 let start = Instant::now();
                 side(black_box(&self.input), &mut self.output);
                 *best = best.min(start.elapsed().as_nanos() as f64 / SAMPLES as f64);
@@ -97,6 +105,15 @@ impl Bench {
             #[cfg(steps)]
             self.plain_row(&of("step by value"), port::cascade_by_value(order, CUTOFF, RATE), lowpass(order));
         }
+    }
+
+    fn in_place_rows(&mut self) {
+        for n in [64, 31] {
+            let t = numbers(n, 7);
+            self.row(&format!("FIR block of {BUFFER} in place, {n} taps"), port::fir_in_place(&t, BUFFER), ring_in_place(&t), deque_in_place(&t));
+        }
+        let name = format!("cascade block of {BUFFER} in place, low pass of order 8");
+        self.plain_row(&name, port::cascade_in_place(8, CUTOFF, RATE, BUFFER), lowpass_in_place(8));
     }
 
     /// The best time of each of two makers of DESIGNS designs, ns a design.
@@ -159,6 +176,10 @@ fn ring_calls(taps: &[f64]) -> Run {
     let mut filter = rust_ring::fir(taps);
     Box::new(move |input, output| filter.calls(input, output))
 }
+fn ring_in_place(taps: &[f64]) -> Run {
+    let mut filter = rust_ring::fir(taps);
+    Box::new(move |_, output| filter.in_place(output))
+}
 fn deque(taps: &[f64]) -> Run {
     let mut filter = rust_deque::fir(taps);
     Box::new(move |input, output| filter.all(input, output))
@@ -166,6 +187,10 @@ fn deque(taps: &[f64]) -> Run {
 fn deque_calls(taps: &[f64]) -> Run {
     let mut filter = rust_deque::fir(taps);
     Box::new(move |input, output| filter.calls(input, output))
+}
+fn deque_in_place(taps: &[f64]) -> Run {
+    let mut filter = rust_deque::fir(taps);
+    Box::new(move |_, output| filter.in_place(output))
 }
 fn lowpass(order: usize) -> Run {
     let mut filter = rust_ring::lowpass(order, CUTOFF, RATE);
@@ -175,6 +200,10 @@ fn lowpass_calls(order: usize) -> Run {
     let mut filter = rust_ring::lowpass(order, CUTOFF, RATE);
     Box::new(move |input, output| filter.calls(input, output))
 }
+fn lowpass_in_place(order: usize) -> Run {
+    let mut filter = rust_ring::lowpass(order, CUTOFF, RATE);
+    Box::new(move |_, output| filter.in_place(output))
+}
 
 fn main() {
     let rounds = std::env::args().nth(1).map_or(15, |a| a.parse().expect("usage: bench [ROUNDS]"));
@@ -182,6 +211,7 @@ fn main() {
     println!("| row | port, ns a sample | Rust (ring) | port / Rust | Rust (VecDeque) | port / Rust |\n|---|---|---|---|---|---|");
     bench.fir_rows();
     bench.cascade_rows();
+    bench.in_place_rows();
     bench.design_rows();
     bench.by_taps();
     bench.by_length();

@@ -6,9 +6,11 @@ extern "C" {
     fn pulse_design_chebyshev1_lp(order: usize, cutoff: f64, decibels: f64, rate: f64, numbers: *mut f64, numbers_len: usize, counts: *mut usize, counts_len: usize) -> u8;
     fn pulse_cascade_step(numbers: *mut f64, numbers_len: usize, counts: *mut usize, counts_len: usize, x: f64, answer: *mut f64, answer_len: usize, clouded: *mut usize, clouded_len: usize) -> u8;
     fn pulse_cascade_block(numbers: *mut f64, numbers_len: usize, counts: *mut usize, counts_len: usize, input: *const f64, input_len: usize, output: *mut f64, output_len: usize, clouded: *mut usize, clouded_len: usize) -> u8;
+    fn pulse_cascade_block_in_place(numbers: *mut f64, numbers_len: usize, counts: *mut usize, counts_len: usize, buffer: *mut f64, buffer_len: usize, clouded: *mut usize, clouded_len: usize) -> u8;
     fn pulse_fir_from_coeffs(coeffs: *const f64, coeffs_len: usize, taps: *mut f64, taps_len: usize, samples: *mut f64, samples_len: usize, counts: *mut usize, counts_len: usize) -> u8;
     fn pulse_fir_step(taps: *const f64, taps_len: usize, samples: *mut f64, samples_len: usize, counts: *mut usize, counts_len: usize, x: f64, answer: *mut f64, answer_len: usize, clouded: *mut usize, clouded_len: usize) -> u8;
     fn pulse_fir_block(taps: *const f64, taps_len: usize, samples: *mut f64, samples_len: usize, counts: *mut usize, counts_len: usize, input: *const f64, input_len: usize, output: *mut f64, output_len: usize, clouded: *mut usize, clouded_len: usize) -> u8;
+    fn pulse_fir_block_in_place(taps: *const f64, taps_len: usize, samples: *mut f64, samples_len: usize, counts: *mut usize, counts_len: usize, buffer: *mut f64, buffer_len: usize, clouded: *mut usize, clouded_len: usize) -> u8;
 }
 #[cfg(steps)]
 extern "C" {
@@ -16,7 +18,7 @@ extern "C" {
     fn steps_fir(coeffs: *const f64, coeffs_len: usize, input: *const f64, input_len: usize, output: *mut f64, output_len: usize) -> u8;
 }
 
-/// From the input to the output, and on from there the next time.
+/// From the input to the output, and on from there the next time. A run in place takes its samples from the output.
 pub type Run = Box<dyn FnMut(&[f64], &mut [f64])>;
 
 fn accepted(number: u8) {
@@ -51,6 +53,16 @@ pub fn cascade_blocks(order: usize, cutoff: f64, rate: f64, length: usize) -> Ru
         let mut clouded = 0;
         for (x, y) in input.chunks(length).zip(output.chunks_mut(length)) {
             accepted(unsafe { pulse_cascade_block(c.numbers.as_mut_ptr(), 32, c.counts.as_mut_ptr(), 3, x.as_ptr(), x.len(), y.as_mut_ptr(), y.len(), &mut clouded, 1) });
+        }
+    })
+}
+
+pub fn cascade_in_place(order: usize, cutoff: f64, rate: f64, length: usize) -> Run {
+    let mut c = lowpass(order, cutoff, rate);
+    Box::new(move |_, output| {
+        let mut clouded = 0;
+        for b in output.chunks_mut(length) {
+            accepted(unsafe { pulse_cascade_block_in_place(c.numbers.as_mut_ptr(), 32, c.counts.as_mut_ptr(), 3, b.as_mut_ptr(), b.len(), &mut clouded, 1) });
         }
     })
 }
@@ -90,6 +102,16 @@ pub fn fir_blocks(coeffs: &[f64], length: usize) -> Run {
         let mut clouded = 0;
         for (x, y) in input.chunks(length).zip(output.chunks_mut(length)) {
             accepted(unsafe { pulse_fir_block(t.taps.as_ptr(), 64, t.samples.as_mut_ptr(), 64, t.counts.as_mut_ptr(), 3, x.as_ptr(), x.len(), y.as_mut_ptr(), y.len(), &mut clouded, 1) });
+        }
+    })
+}
+
+pub fn fir_in_place(coeffs: &[f64], length: usize) -> Run {
+    let mut t = from_coeffs(coeffs);
+    Box::new(move |_, output| {
+        let mut clouded = 0;
+        for b in output.chunks_mut(length) {
+            accepted(unsafe { pulse_fir_block_in_place(t.taps.as_ptr(), 64, t.samples.as_mut_ptr(), 64, t.counts.as_mut_ptr(), 3, b.as_mut_ptr(), b.len(), &mut clouded, 1) });
         }
     })
 }

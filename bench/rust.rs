@@ -19,6 +19,8 @@ pub trait Running {
     fn all(&mut self, input: &[f64], output: &mut [f64]);
     /// The same, each update behind a call.
     fn calls(&mut self, input: &[f64], output: &mut [f64]);
+    /// Its update in a loop over one slice, whose samples become the answers.
+    fn in_place(&mut self, buffer: &mut [f64]);
 }
 
 macro_rules! running {
@@ -36,6 +38,11 @@ macro_rules! running {
                 }
                 for (x, y) in input.iter().zip(output) {
                     *y = call(self, *x);
+                }
+            }
+            fn in_place(&mut self, buffer: &mut [f64]) {
+                for x in buffer {
+                    *x = self.update(Port(*x)).0;
                 }
             }
         }

@@ -26,12 +26,14 @@
  *     pulse_design_chebyshev1_lp          1640
  *     pulse_design_chebyshev2_lp          1640
  *     pulse_cascade_step                     8
- *     pulse_cascade_block                  448
+ *     pulse_cascade_block                 1008
+ *     pulse_cascade_block_in_place        3376
  *     pulse_cascade_reset                    8
  *     pulse_design_fir_lp                 2248
  *     pulse_fir_from_coeffs               1624
  *     pulse_fir_step                        16
- *     pulse_fir_block                     2280
+ *     pulse_fir_block                     2408
+ *     pulse_fir_block_in_place            4536
  *     pulse_fir_reset                       24
  *
  * These are bounds, which `tools/stack` reads off the archive's machine code; no function calls itself. They leave out what
@@ -188,6 +190,14 @@ uint8_t pulse_cascade_block(double *PULSE_RESTRICT numbers, size_t numbers_len, 
                             const double *PULSE_RESTRICT input, size_t input_len, double *PULSE_RESTRICT output, size_t output_len,
                             size_t *PULSE_RESTRICT clouded, size_t clouded_len);
 
+/* The samples of `buffer`, each as a step, in their order, in place. After it every place of `buffer` holds the answer to the
+ * sample that it held, `clouded` how many of the answers are Clouded, and `numbers` and `counts` the state after the last
+ * step: the same as of the block with these samples as its input and another array as its output. An empty buffer leaves the
+ * state, and makes `clouded` 0.
+ * 13: numbers_len is not 32, counts_len not 3, clouded_len not 1, or a flag above 1; then 11. */
+uint8_t pulse_cascade_block_in_place(double *PULSE_RESTRICT numbers, size_t numbers_len, size_t *PULSE_RESTRICT counts, size_t counts_len,
+                                     double *PULSE_RESTRICT buffer, size_t buffer_len, size_t *PULSE_RESTRICT clouded, size_t clouded_len);
+
 /* Forgets all samples: after it every carried value in `numbers` is +0, those of unused parts too, the cloud flag in
  * `counts` is 0, and all else is as it was.
  * 13: numbers_len is not 32, counts_len not 3, or a flag above 1; then 11. */
@@ -232,6 +242,15 @@ uint8_t pulse_fir_step(const double *PULSE_RESTRICT taps, size_t taps_len, doubl
 uint8_t pulse_fir_block(const double *PULSE_RESTRICT taps, size_t taps_len, double *PULSE_RESTRICT samples, size_t samples_len,
                         size_t *PULSE_RESTRICT counts, size_t counts_len, const double *PULSE_RESTRICT input, size_t input_len,
                         double *PULSE_RESTRICT output, size_t output_len, size_t *PULSE_RESTRICT clouded, size_t clouded_len);
+
+/* The samples of `buffer`, each as a step, in their order, in place. After it every place of `buffer` holds the answer to the
+ * sample that it held, `clouded` how many of the answers are Clouded, and `samples` and `counts` the state after the last
+ * step: the same as of the block with these samples as its input and another array as its output. An empty buffer leaves the
+ * state, and makes `clouded` 0.
+ * 13: taps_len or samples_len is not 64, counts_len not 3, or clouded_len not 1; then 12. */
+uint8_t pulse_fir_block_in_place(const double *PULSE_RESTRICT taps, size_t taps_len, double *PULSE_RESTRICT samples, size_t samples_len,
+                                 size_t *PULSE_RESTRICT counts, size_t counts_len, double *PULSE_RESTRICT buffer, size_t buffer_len,
+                                 size_t *PULSE_RESTRICT clouded, size_t clouded_len);
 
 /* Forgets all samples: after it `samples` is all +0 and the held count in `counts` is 0; all else is as it was.
  * 13: taps_len or samples_len is not 64, or counts_len not 3; then 12. */

@@ -10,11 +10,13 @@ extern "C" {
     fn pulse_design_chebyshev2_lp(order: usize, cutoff: f64, decibels: f64, rate: f64, numbers: *mut f64, numbers_len: usize, counts: *mut usize, counts_len: usize) -> u8;
     fn pulse_cascade_step(numbers: *mut f64, numbers_len: usize, counts: *mut usize, counts_len: usize, x: f64, answer: *mut f64, answer_len: usize, clouded: *mut usize, clouded_len: usize) -> u8;
     fn pulse_cascade_block(numbers: *mut f64, numbers_len: usize, counts: *mut usize, counts_len: usize, input: *const f64, input_len: usize, output: *mut f64, output_len: usize, clouded: *mut usize, clouded_len: usize) -> u8;
+    fn pulse_cascade_block_in_place(numbers: *mut f64, numbers_len: usize, counts: *mut usize, counts_len: usize, buffer: *mut f64, buffer_len: usize, clouded: *mut usize, clouded_len: usize) -> u8;
     fn pulse_cascade_reset(numbers: *mut f64, numbers_len: usize, counts: *mut usize, counts_len: usize) -> u8;
     fn pulse_design_fir_lp(taps_asked: usize, cutoff: f64, window: usize, taps: *mut f64, taps_len: usize, samples: *mut f64, samples_len: usize, counts: *mut usize, counts_len: usize) -> u8;
     fn pulse_fir_from_coeffs(coeffs: *const f64, coeffs_len: usize, taps: *mut f64, taps_len: usize, samples: *mut f64, samples_len: usize, counts: *mut usize, counts_len: usize) -> u8;
     fn pulse_fir_step(taps: *const f64, taps_len: usize, samples: *mut f64, samples_len: usize, counts: *mut usize, counts_len: usize, x: f64, answer: *mut f64, answer_len: usize, clouded: *mut usize, clouded_len: usize) -> u8;
     fn pulse_fir_block(taps: *const f64, taps_len: usize, samples: *mut f64, samples_len: usize, counts: *mut usize, counts_len: usize, input: *const f64, input_len: usize, output: *mut f64, output_len: usize, clouded: *mut usize, clouded_len: usize) -> u8;
+    fn pulse_fir_block_in_place(taps: *const f64, taps_len: usize, samples: *mut f64, samples_len: usize, counts: *mut usize, counts_len: usize, buffer: *mut f64, buffer_len: usize, clouded: *mut usize, clouded_len: usize) -> u8;
     fn pulse_fir_reset(taps: *const f64, taps_len: usize, samples: *mut f64, samples_len: usize, counts: *mut usize, counts_len: usize) -> u8;
 }
 
@@ -52,19 +54,20 @@ impl<T: Copy + PartialEq> Guarded<T> {
 }
 
 struct Lent {
-    floats: [Guarded<f64>; 6],
+    floats: [Guarded<f64>; 7],
     wholes: [Guarded<usize>; 3],
 }
 
 impl Lent {
     fn new(s: &Slices, shift: usize) -> Lent {
-        let floats = [&s.numbers, &s.taps, &s.samples, &s.input, &s.output, &s.answer].map(|f| Guarded::new(f, shift, 123.456));
+        let floats = [&s.numbers, &s.taps, &s.samples, &s.input, &s.output, &s.buffer, &s.answer].map(|f| Guarded::new(f, shift, 123.456));
         let wholes = [&s.counts, &s.fir_counts, &s.clouded].map(|w| Guarded::new(w, shift, 123_456));
         Lent { floats, wholes }
     }
     fn back(self, s: &mut Slices) -> bool {
         let mut good = true;
-        for (guarded, slice) in self.floats.into_iter().zip([&mut s.numbers, &mut s.taps, &mut s.samples, &mut s.input, &mut s.output, &mut s.answer]) {
+        let floats = [&mut s.numbers, &mut s.taps, &mut s.samples, &mut s.input, &mut s.output, &mut s.buffer, &mut s.answer];
+        for (guarded, slice) in self.floats.into_iter().zip(floats) {
             good &= guarded.back(slice);
         }
         for (guarded, slice) in self.wholes.into_iter().zip([&mut s.counts, &mut s.fir_counts, &mut s.clouded]) {
@@ -82,7 +85,7 @@ pub fn call(call: &Call, slices: &mut Slices, shift: usize) -> (u8, bool) {
 }
 
 fn cascade(call: &Call, lent: &mut Lent) -> u8 {
-    let [numbers, _, _, input, output, answer] = &mut lent.floats;
+    let [numbers, _, _, input, output, buffer, answer] = &mut lent.floats;
     let [counts, _, clouded] = &mut lent.wholes;
     let (n, nl, c, cl) = (numbers.start(), numbers.len(), counts.start(), counts.len());
     let v = |i: usize| call.floats[i];
@@ -95,13 +98,14 @@ fn cascade(call: &Call, lent: &mut Lent) -> u8 {
             Chebyshev2 => pulse_design_chebyshev2_lp(call.size, v(0), v(1), v(2), n, nl, c, cl),
             CascadeStep => pulse_cascade_step(n, nl, c, cl, call.x, answer.start(), answer.len(), clouded.start(), clouded.len()),
             CascadeBlock => pulse_cascade_block(n, nl, c, cl, input.start(), input.len(), output.start(), output.len(), clouded.start(), clouded.len()),
+            CascadeInPlace => pulse_cascade_block_in_place(n, nl, c, cl, buffer.start(), buffer.len(), clouded.start(), clouded.len()),
             _ => pulse_cascade_reset(n, nl, c, cl),
         }
     }
 }
 
 fn fir(call: &Call, lent: &mut Lent) -> u8 {
-    let [_, taps, samples, input, output, answer] = &mut lent.floats;
+    let [_, taps, samples, input, output, buffer, answer] = &mut lent.floats;
     let [_, counts, clouded] = &mut lent.wholes;
     let (t, tl, s, sl, c, cl) = (taps.start(), taps.len(), samples.start(), samples.len(), counts.start(), counts.len());
     unsafe {
@@ -110,6 +114,7 @@ fn fir(call: &Call, lent: &mut Lent) -> u8 {
             FirCoeffs => pulse_fir_from_coeffs(input.start(), input.len(), t, tl, s, sl, c, cl),
             FirStep => pulse_fir_step(t, tl, s, sl, c, cl, call.x, answer.start(), answer.len(), clouded.start(), clouded.len()),
             FirBlock => pulse_fir_block(t, tl, s, sl, c, cl, input.start(), input.len(), output.start(), output.len(), clouded.start(), clouded.len()),
+            FirInPlace => pulse_fir_block_in_place(t, tl, s, sl, c, cl, buffer.start(), buffer.len(), clouded.start(), clouded.len()),
             _ => pulse_fir_reset(t, tl, s, sl, c, cl),
         }
     }

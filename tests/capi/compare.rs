@@ -27,6 +27,11 @@ use published::Filters;
 use slices::{difference, Call, Function, Function::*, Slices, FUNCTIONS};
 
 const LONGEST_BLOCK: usize = 300;
+const LONGEST_IN_PLACE: usize = 600;
+
+/// The functions that take a block, and the most samples that they are asked for.
+const BLOCKS: [(Function, usize); 4] =
+    [(CascadeBlock, LONGEST_BLOCK), (FirBlock, LONGEST_BLOCK), (CascadeInPlace, LONGEST_IN_PLACE), (FirInPlace, LONGEST_IN_PLACE)];
 
 /// The number of a Rust error.
 fn refusal(error: FilterError) -> u8 {
@@ -45,9 +50,9 @@ fn numbers(function: Function) -> &'static [u8] {
         Chebyshev1 | Chebyshev2 => &[0, 1, 2, 3, 4, 13],
         FirDesign => &[0, 1, 2, 13],
         FirCoeffs => &[0, 1, 13],
-        CascadeStep | CascadeReset => &[0, 11, 13],
+        CascadeStep | CascadeInPlace | CascadeReset => &[0, 11, 13],
         CascadeBlock => &[0, 5, 11, 13],
-        FirStep | FirReset => &[0, 12, 13],
+        FirStep | FirInPlace | FirReset => &[0, 12, 13],
         FirBlock => &[0, 5, 12, 13],
     }
 }
@@ -58,17 +63,17 @@ struct Session {
     filters: Filters,
     calls: u64,
     /// How often each function returned each number.
-    tally: [[u64; 14]; 13],
+    tally: [[u64; 14]; 15],
     /// Answers compared, and how many of them were a NaN.
     answers: [u64; 2],
-    /// Which block lengths ran, of the cascade and of the FIR.
-    lengths: [[bool; LONGEST_BLOCK + 1]; 2],
+    /// Which lengths ran, of each of BLOCKS.
+    lengths: [[bool; LONGEST_IN_PLACE + 1]; 4],
 }
 
 impl Session {
     fn new(seed: u64) -> Session {
-        let tally = [[0; 14]; 13];
-        let lengths = [[false; LONGEST_BLOCK + 1]; 2];
+        let tally = [[0; 14]; 15];
+        let lengths = [[false; LONGEST_IN_PLACE + 1]; 4];
         Session { dice: Dice(seed), state: Slices::blank(), filters: Filters::default(), calls: 0, tally, answers: [0; 2], lengths }
     }
 
@@ -86,7 +91,7 @@ impl Session {
         } else if number == 0 {
             model::run(call, &mut after);
             if live {
-                self.filters.run(call, &after);
+                self.filters.run(call, before, &after);
             }
         }
         (number, after)
@@ -120,19 +125,21 @@ impl Session {
         let answers = match () {
             _ if call.function.is_step() => &given.answer[..],
             _ if call.function.is_block() => &given.output[..given.input.len()],
+            _ if call.function.is_in_place() => &given.buffer[..],
             _ => &[],
         };
         self.answers[0] += answers.len() as u64;
         self.answers[1] += answers.iter().filter(|y| y.is_nan()).count() as u64;
-        if call.function.is_block() {
-            self.lengths[!call.function.is_cascade() as usize][answers.len()] = true;
+        if let Some(row) = BLOCKS.iter().position(|(f, _)| *f == call.function) {
+            self.lengths[row][answers.len()] = true;
         }
     }
 
     /// A call of the function on the current state.
     fn live(&mut self, function: Function) -> Result<(), String> {
         let mut before = self.state.clone();
-        let samples = self.dice.below(LONGEST_BLOCK + 1);
+        let longest = BLOCKS.iter().find(|(f, _)| *f == function).map_or(0, |(_, longest)| *longest);
+        let samples = self.dice.below(longest + 1);
         let call = self.dice.call(function, samples, &mut before);
         self.compare(&call, before, true)
     }
@@ -182,8 +189,10 @@ impl Session {
             18..=21 => self.other_state(),
             22..=36 => self.live(CascadeStep),
             37..=51 => self.live(FirStep),
-            52..=64 => self.live(CascadeBlock),
-            65..=76 => self.live(FirBlock),
+            52..=58 => self.live(CascadeBlock),
+            59..=64 => self.live(CascadeInPlace),
+            65..=70 => self.live(FirBlock),
+            71..=76 => self.live(FirInPlace),
             77 => self.live(CascadeReset),
             78..=79 => self.live(FirReset),
             _ => self.damaged(),
@@ -199,14 +208,18 @@ impl Session {
                 }
             }
         }
-        let length = self.lengths.iter().find_map(|ran| ran.iter().position(|r| !r))?;
-        Some(format!("no block of {length} samples ran"))
+        for ((function, longest), ran) in BLOCKS.iter().zip(&self.lengths) {
+            if let Some(length) = ran[..=*longest].iter().position(|r| !r) {
+                return Some(format!("{function:?} never ran over {length} samples"));
+            }
+        }
+        None
     }
 
     fn report(&self) {
         for function in FUNCTIONS {
             let row: Vec<String> = numbers(function).iter().map(|n| format!("{n}: {}", self.tally[function as usize][*n as usize])).collect();
-            println!("{:<14}{}", format!("{function:?}"), row.join(", "));
+            println!("{:<16}{}", format!("{function:?}"), row.join(", "));
         }
         println!("{} answers, {} of them a NaN", self.answers[0], self.answers[1]);
     }

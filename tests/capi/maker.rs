@@ -102,7 +102,7 @@ impl Dice {
         }
     }
 
-    /// A call of the function, its own slices among the given ones. A block has `samples` of them.
+    /// A call of the function, its own slices among the given ones. A block, in place or not, has `samples` samples.
     pub fn call(&mut self, function: Function, samples: usize, s: &mut Slices) -> Call {
         let most = match function {
             BandPass => 4,
@@ -111,8 +111,10 @@ impl Dice {
         };
         s.answer = vec![self.special()];
         s.clouded = vec![self.pick(&[0, 1, 77, usize::MAX])];
-        (s.input, s.output) = (vec![], vec![]);
-        if function.is_block() {
+        (s.input, s.output, s.buffer) = (vec![], vec![], vec![]);
+        if function.is_in_place() {
+            s.buffer = self.samples(samples);
+        } else if function.is_block() {
             s.input = self.samples(samples);
             let more = self.pick(&[0, 0, 1, 2, 17, 40]);
             let places = if samples > 0 && self.one_in(12) { self.below(samples) } else { samples + more };
@@ -155,7 +157,7 @@ impl Dice {
         }
         match f {
             FirDesign => call.window = self.pick(&near(3)),
-            CascadeStep | CascadeBlock | CascadeReset if s.counts.len() == 3 => {
+            CascadeStep | CascadeBlock | CascadeInPlace | CascadeReset if s.counts.len() == 3 => {
                 if kind == 1 {
                     s.counts[0] = self.pick(&near(4));
                 } else if self.one_in(3) {
@@ -165,7 +167,7 @@ impl Dice {
                     s.counts[flag] = self.pick(&near(1));
                 }
             }
-            FirStep | FirBlock | FirReset if s.fir_counts.len() == 3 => match self.below(4) {
+            FirStep | FirBlock | FirInPlace | FirReset if s.fir_counts.len() == 3 => match self.below(4) {
                 0 => s.fir_counts[0] = 0,
                 1 => s.fir_counts[0] = self.pick(&near(64)),
                 2 => s.fir_counts[1] = self.pick(&near(s.fir_counts[0].min(64))),
@@ -186,7 +188,7 @@ impl Dice {
             (0, false) => count(&mut s.fir_counts),
             (1, false) => float(&mut s.samples),
             (2, _) if f.is_step() => float(&mut s.answer),
-            (3, _) if f.is_step() || f.is_block() => count(&mut s.clouded),
+            (3, _) if f.is_step() || f.is_block() || f.is_in_place() => count(&mut s.clouded),
             (_, true) => float(&mut s.numbers),
             (_, false) => float(&mut s.taps),
         }

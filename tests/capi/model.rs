@@ -12,12 +12,12 @@ fn is_bad_call(call: &Call, s: &Slices) -> bool {
     let f = call.function;
     let state = if f.is_cascade() { s.numbers.len() == 32 && s.counts.len() == 3 } else { s.taps.len() == 64 && s.samples.len() == 64 && s.fir_counts.len() == 3 };
     let answer = !f.is_step() || s.answer.len() == 1;
-    let clouded = !(f.is_step() || f.is_block()) || s.clouded.len() == 1;
+    let clouded = !(f.is_step() || f.is_block() || f.is_in_place()) || s.clouded.len() == 1;
     if !state || !answer || !clouded {
         return true;
     }
     match f {
-        CascadeStep | CascadeBlock | CascadeReset => s.counts[1] > 1 || s.counts[2] > 1,
+        CascadeStep | CascadeBlock | CascadeInPlace | CascadeReset => s.counts[1] > 1 || s.counts[2] > 1,
         FirDesign => call.window > 3,
         _ => false,
     }
@@ -113,6 +113,15 @@ pub fn run(call: &Call, s: &mut Slices) {
             for i in 0..s.input.len() {
                 let (y, mark) = step(call, s, s.input[i]);
                 s.output[i] = y;
+                clouded += mark;
+            }
+            s.clouded[0] = clouded;
+        }
+        CascadeInPlace | FirInPlace => {
+            let mut clouded = 0;
+            for i in 0..s.buffer.len() {
+                let (y, mark) = step(call, s, s.buffer[i]);
+                s.buffer[i] = y;
                 clouded += mark;
             }
             s.clouded[0] = clouded;

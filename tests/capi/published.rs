@@ -71,14 +71,16 @@ impl Filters {
         *self.of(call) = filter;
     }
 
-    /// Runs the published filter along with an accepted step, block or reset, whose slices are as the model has them.
-    /// Stops where the model answers otherwise than the published Rust.
-    pub fn run(&mut self, call: &Call, s: &Slices) {
+    /// Runs the published filter along with an accepted step, block or reset, whose slices are those before it, and after
+    /// it as the model has them. Stops where the model answers otherwise than the published Rust.
+    pub fn run(&mut self, call: &Call, before: &Slices, s: &Slices) {
         let Some(filter) = self.of(call) else { return };
-        if !call.function.is_step() && !call.function.is_block() {
-            return filter.reset();
-        }
-        let (xs, ys) = if call.function.is_step() { (&[call.x][..], &s.answer) } else { (&s.input[..], &s.output) };
+        let (xs, ys) = match call.function {
+            CascadeStep | FirStep => (&[call.x][..], &s.answer),
+            CascadeBlock | FirBlock => (&before.input[..], &s.output),
+            CascadeInPlace | FirInPlace => (&before.buffer[..], &s.buffer),
+            _ => return filter.reset(),
+        };
         let mut clouded = 0;
         for (x, y) in xs.iter().zip(ys) {
             let (rust, mark) = filter.step(*x);

@@ -1,7 +1,8 @@
 /* Replays stored answers of the published Rust through the C interface, and compares every number, mark, count and output
- * place. The list is that of the program `replay`, crates/replay/data/answers: tools/replay-list asked the oracle
- * (oracle/build, from the published Rust) and tools/replay.py converted its answers; the latter says how the list is laid
- * out. Its elementary functions are not part of this interface and are passed over.
+ * place. Each block also runs in place, on a copy of the state, and must come to the same. The list is that of the program
+ * `replay`, crates/replay/data/answers: tools/replay-list asked the oracle (oracle/build, from the published Rust) and
+ * tools/replay.py converted its answers; the latter says how the list is laid out. Its elementary functions are not part of
+ * this interface and are passed over.
  * Usage: replay LIST. Status 0: all agree; 1: a difference, which is shown; 2: no list. */
 #include "pulse.h"
 #include <inttypes.h>
@@ -23,7 +24,7 @@ static struct state now;
 #define TAP_RECORD now.taps, PULSE_TAPS_LEN, now.samples, PULSE_SAMPLES_LEN, now.fir_counts, PULSE_FIR_COUNTS_LEN
 
 static uint64_t asked[MOST], expected[MOST], given[MOST];
-static double floats[MOST], output[MOST];
+static double floats[MOST], output[MOST], buffer[MOST];
 
 static double number(uint64_t word) {
     double x;
@@ -94,7 +95,39 @@ static size_t step(uint64_t kind, uint8_t *refusal) {
     return 2;
 }
 
-static size_t block(uint64_t kind, uint8_t *refusal) {
+static int same(const double *a, const double *b, size_t count) {
+    for (size_t i = 0; i < count; i++)
+        if (word(a[i]) != word(b[i]))
+            return 0;
+    return 1;
+}
+
+static int same_state(const struct state *a, const struct state *b) {
+    return same(a->numbers, b->numbers, PULSE_NUMBERS_LEN) && same(a->taps, b->taps, PULSE_TAPS_LEN) && same(a->samples, b->samples, PULSE_SAMPLES_LEN)
+        && memcmp(a->counts, b->counts, sizeof a->counts) == 0 && memcmp(a->fir_counts, b->fir_counts, sizeof a->fir_counts) == 0;
+}
+
+/* Whether a block in place comes to what a block that returned `refusal` came to: the same number, answers, count and state.
+ * Where the output was too short it must be accepted, since it has none. */
+static int same_in_place(uint64_t kind, const struct state *before, uint8_t refusal, size_t samples, size_t count) {
+    struct state after = now;
+    size_t clouded = 99;
+    now = *before;
+    memcpy(buffer, floats, sizeof buffer);
+    uint8_t number = kind == CASCADE_BLOCK ? pulse_cascade_block_in_place(CASCADE, buffer, samples, &clouded, 1)
+                                           : pulse_fir_block_in_place(TAP_RECORD, buffer, samples, &clouded, 1);
+    struct state left = now;
+    now = after;
+    if (refusal == PULSE_SHORT_OUTPUT)
+        return number == 0;
+    if (refusal)
+        return number == refusal && clouded == 99 && memcmp(buffer, floats, sizeof buffer) == 0 && memcmp(&left, before, sizeof left) == 0;
+    int behind = memcmp(buffer + samples, floats + samples, (MOST - samples) * sizeof *buffer) == 0;
+    return number == 0 && clouded == count && same(buffer, output, samples) && behind && same_state(&left, &after);
+}
+
+static size_t block(uint64_t kind, uint8_t *refusal, int *in_place) {
+    struct state before = now;
     size_t samples = asked[0], places = asked[1], clouded = 0;
     for (size_t i = 0; i < samples; i++)
         floats[i] = number(asked[2 + i]);
@@ -102,6 +135,7 @@ static size_t block(uint64_t kind, uint8_t *refusal) {
         output[i] = (double)(FIRST_OUTPUT + i);
     *refusal = kind == CASCADE_BLOCK ? pulse_cascade_block(CASCADE, floats, samples, output, places, &clouded, 1)
                                      : pulse_fir_block(TAP_RECORD, floats, samples, output, places, &clouded, 1);
+    *in_place = same_in_place(kind, &before, *refusal, samples, clouded);
     given[0] = *refusal;
     given[1] = clouded;
     return put(2, output, places);
@@ -113,13 +147,15 @@ static size_t reset(uint64_t kind, uint8_t *refusal) {
     return 1;
 }
 
-/* Calls the function; false where a refused call changed the state. The answer's words go to `given`, *n of them. */
-static int called(uint64_t kind, size_t words, size_t *n) {
+/* Calls the function; what is wrong, or none: a refused call that changed the state, or a block in place that came to
+ * something else. The answer's words go to `given`, *n of them. */
+static const char *called(uint64_t kind, size_t words, size_t *n) {
     struct state before = now;
     uint8_t refusal = 0;
+    int in_place = 1;
     switch (kind) {
     case CASCADE_STEP: case FIR_STEP: *n = step(kind, &refusal); break;
-    case CASCADE_BLOCK: case FIR_BLOCK: *n = block(kind, &refusal); break;
+    case CASCADE_BLOCK: case FIR_BLOCK: *n = block(kind, &refusal, &in_place); break;
     case CASCADE_RESET: case FIR_RESET: *n = reset(kind, &refusal); break;
     case TAPS:
         for (size_t i = 0; i < words; i++)
@@ -131,7 +167,7 @@ static int called(uint64_t kind, size_t words, size_t *n) {
     int kept = !refusal || memcmp(&before, &now, sizeof now) == 0;
     if (kind < CASCADE_STEP || kind == FIR || kind == TAPS)
         *n = designed(kind, refusal);
-    return kept;
+    return !kept ? "refused, and the state is changed" : !in_place ? "something else in place" : 0;
 }
 
 static int read_words(FILE *list, uint64_t *words, size_t count) {
@@ -151,10 +187,12 @@ static int request(FILE *list, size_t line) {
     }
     if (head[0] > FIR_RESET)
         return 0;
-    int kept = called(head[0], head[1], &n);
-    if (kept && n == head[2] && memcmp(expected, given, n * sizeof *given) == 0)
+    const char *wrong = called(head[0], head[1], &n);
+    if (n != head[2] || memcmp(expected, given, n * sizeof *given))
+        wrong = "another answer";
+    if (!wrong)
         return 1;
-    printf("request %zu, kind %" PRIu64 ": %s; expected and given:\n", line, head[0], kept ? "another answer" : "refused, and the state is changed");
+    printf("request %zu, kind %" PRIu64 ": %s; expected and given:\n", line, head[0], wrong);
     for (size_t i = 0; i < head[2] || i < n; i++)
         printf("%016" PRIX64 " %016" PRIX64 "\n", i < head[2] ? expected[i] : 0, i < n ? given[i] : 0);
     return -1;

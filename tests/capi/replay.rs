@@ -1,6 +1,7 @@
 // Replays the stored answers of the published Rust through the archive from Rust, over slices between guard places
-// (archive.rs), and compares every number, mark, count and output place. It needs nothing but rustc, the archive and the
-// list, whose layout tools/replay.py says: replay.c reads the same one.
+// (archive.rs), and compares every number, mark, count and output place. Each block also runs in place, on a copy of the
+// state, and must come to the same. It needs nothing but rustc, the archive and the list, whose layout tools/replay.py says:
+// replay.c reads the same one.
 // Usage: replay LIST. Status 0: all agree; 1: a difference, which is shown, or no list.
 mod archive;
 #[allow(dead_code)]
@@ -10,6 +11,7 @@ use slices::{Call, Function, Slices, FUNCTIONS};
 use std::process::ExitCode;
 
 const FIRST_OUTPUT: usize = 1000;
+const SHORT_OUTPUT: u8 = 5;
 
 struct Request<'a> {
     function: Function,
@@ -80,6 +82,28 @@ fn answered(function: Function, refusal: u8, slices: &mut Slices) -> Vec<u64> {
     }
 }
 
+/// The call of a block once more, in place and on the slices before it, which must come to what it came to: `refusal` and
+/// `after`. Where the output was too short it must be accepted, since it has none.
+fn in_place(block: &Call, before: &Slices, refusal: u8, after: &Slices) -> Result<(), String> {
+    let function = if block.function.is_cascade() { Function::CascadeInPlace } else { Function::FirInPlace };
+    let call = Call { function, ..block.clone() };
+    let (mut expected, mut given) = (after.clone(), before.clone());
+    given.buffer = before.input.clone();
+    given.output = after.output.clone();
+    expected.buffer = if refusal == 0 { after.output[..before.input.len()].to_vec() } else { before.input.clone() };
+    let (number, within) = archive::call(&call, &mut given, 0);
+    if !within {
+        return Err("in place, a place outside of a slice was written".to_string());
+    }
+    if number != (if refusal == SHORT_OUTPUT { 0 } else { refusal }) {
+        return Err(format!("in place, returned {number}"));
+    }
+    match slices::difference(&call, refusal != 0, &expected, &given) {
+        Some(place) if refusal != SHORT_OUTPUT => Err(format!("in place, {place}")),
+        _ => Ok(()),
+    }
+}
+
 /// Replays a request on the filters that stand in the slices; where it does not agree, what is wrong.
 fn replay(request: &Request, slices: &mut Slices) -> Result<(), String> {
     let call = prepared(request, slices);
@@ -92,6 +116,9 @@ fn replay(request: &Request, slices: &mut Slices) -> Result<(), String> {
         if let Some(place) = slices::difference(&call, true, &before, slices) {
             return Err(format!("refused by {refusal}, and a slice is changed: {place}"));
         }
+    }
+    if call.function.is_block() {
+        in_place(&call, &before, refusal, slices)?;
     }
     let given = answered(request.function, refusal, slices);
     if given == request.expected {
@@ -108,15 +135,15 @@ fn next(words: &[u64]) -> Option<(u64, &[u64], &[u64], &[u64])> {
     Some((head[0], asked, expected, rest))
 }
 
-/// Replays a list; how many requests agree. The elementary functions, whose kinds come after the interface's functions, are
-/// passed over.
+/// Replays a list; how many requests agree. The list's kinds are the functions up to `FirReset`, and then the elementary
+/// functions, which are passed over.
 fn replay_all(text: &str) -> Result<usize, String> {
     let words: Vec<u64> = text.split_whitespace().map(|w| u64::from_str_radix(w, 16)).collect::<Result<_, _>>().map_err(|e| e.to_string())?;
     let (count, mut rest) = words.split_first().ok_or("the list is empty")?;
     let (mut slices, mut agree) = (Slices::blank(), 0);
     for line in 1..=*count {
         let (kind, asked, expected, behind) = next(rest).ok_or(format!("request {line} of the list cannot be read"))?;
-        if let Some(function) = FUNCTIONS.get(kind as usize) {
+        if let Some(function) = FUNCTIONS[..=Function::FirReset as usize].get(kind as usize) {
             let request = Request { function: *function, asked, expected };
             replay(&request, &mut slices).map_err(|wrong| format!("request {line}, {function:?}: {wrong}"))?;
             agree += 1;

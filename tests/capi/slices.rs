@@ -15,10 +15,14 @@ pub enum Function {
     FirStep,
     FirBlock,
     FirReset,
+    CascadeInPlace,
+    FirInPlace,
 }
 use Function::*;
-pub const FUNCTIONS: [Function; 13] =
-    [LowPass, HighPass, BandPass, Chebyshev1, Chebyshev2, CascadeStep, CascadeBlock, CascadeReset, FirDesign, FirCoeffs, FirStep, FirBlock, FirReset];
+pub const FUNCTIONS: [Function; 15] = [
+    LowPass, HighPass, BandPass, Chebyshev1, Chebyshev2, CascadeStep, CascadeBlock, CascadeReset, FirDesign, FirCoeffs, FirStep, FirBlock, FirReset,
+    CascadeInPlace, FirInPlace,
+];
 
 impl Function {
     pub fn is_cascade_design(self) -> bool {
@@ -29,13 +33,17 @@ impl Function {
     }
     /// Whether the call is lent a cascade; else a tap record.
     pub fn is_cascade(self) -> bool {
-        self.is_cascade_design() || matches!(self, CascadeStep | CascadeBlock | CascadeReset)
+        self.is_cascade_design() || matches!(self, CascadeStep | CascadeBlock | CascadeReset | CascadeInPlace)
     }
     pub fn is_step(self) -> bool {
         matches!(self, CascadeStep | FirStep)
     }
+    /// A block over two slices.
     pub fn is_block(self) -> bool {
         matches!(self, CascadeBlock | FirBlock)
+    }
+    pub fn is_in_place(self) -> bool {
+        matches!(self, CascadeInPlace | FirInPlace)
     }
 }
 
@@ -59,6 +67,7 @@ pub struct Slices {
     pub fir_counts: Vec<usize>,
     pub input: Vec<f64>,
     pub output: Vec<f64>,
+    pub buffer: Vec<f64>,
     pub answer: Vec<f64>,
     pub clouded: Vec<usize>,
 }
@@ -67,11 +76,20 @@ impl Slices {
     pub fn blank() -> Slices {
         let zeros = |n| vec![0.0; n];
         let (counts, fir_counts) = (vec![0; 3], vec![0; 3]);
-        Slices { numbers: zeros(32), counts, taps: zeros(64), samples: zeros(64), fir_counts, input: vec![], output: vec![], answer: zeros(1), clouded: vec![0] }
+        let (input, output, buffer) = (vec![], vec![], vec![]);
+        Slices { numbers: zeros(32), counts, taps: zeros(64), samples: zeros(64), fir_counts, input, output, buffer, answer: zeros(1), clouded: vec![0] }
     }
 
-    fn floats(&self) -> [(&'static str, &[f64]); 6] {
-        [("numbers", &self.numbers), ("taps", &self.taps), ("samples", &self.samples), ("input", &self.input), ("output", &self.output), ("answer", &self.answer)]
+    fn floats(&self) -> [(&'static str, &[f64]); 7] {
+        [
+            ("numbers", &self.numbers),
+            ("taps", &self.taps),
+            ("samples", &self.samples),
+            ("input", &self.input),
+            ("output", &self.output),
+            ("buffer", &self.buffer),
+            ("answer", &self.answer),
+        ]
     }
 
     fn wholes(&self) -> [(&'static str, &[usize]); 3] {

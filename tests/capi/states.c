@@ -1,22 +1,23 @@
 /* Tries what the stored answers of the Rust cannot have: slices of wrong lengths, damaged states, two reasons for a refusal
- * at once, and every place of a state after a call. The expected numbers are written here from include/pulse.h. After each
- * refusal all slices, and the guard places behind them, must be bit for bit as before.
+ * at once, every place of a state after a call, and blocks in place beside blocks over two arrays. The expected numbers are
+ * written here from include/pulse.h. After each refusal all slices, and the guard places behind them, must be bit for bit as
+ * before, also where they hold NaNs of any bits.
  * Usage: states. Status 0: all as expected; 1: a difference, which is shown. */
 #include "pulse.h"
 #include <math.h>
 #include <stdio.h>
 #include <string.h>
 
-enum function { LOW_PASS, HIGH_PASS, BAND_PASS, CHEBYSHEV1, CHEBYSHEV2, CASCADE_STEP, CASCADE_BLOCK, CASCADE_RESET,
-                FIR_DESIGN, FIR_COEFFS, FIR_STEP, FIR_BLOCK, FIR_RESET, FUNCTIONS };
+enum function { LOW_PASS, HIGH_PASS, BAND_PASS, CHEBYSHEV1, CHEBYSHEV2, CASCADE_STEP, CASCADE_BLOCK, CASCADE_IN_PLACE, CASCADE_RESET,
+                FIR_DESIGN, FIR_COEFFS, FIR_STEP, FIR_BLOCK, FIR_IN_PLACE, FIR_RESET, FUNCTIONS };
 static const char *const names[FUNCTIONS] = {
     "butterworth_lp", "butterworth_hp", "butterworth_bp", "chebyshev1_lp", "chebyshev2_lp", "cascade_step", "cascade_block",
-    "cascade_reset", "fir_lp", "fir_from_coeffs", "fir_step", "fir_block", "fir_reset"};
+    "cascade_block_in_place", "cascade_reset", "fir_lp", "fir_from_coeffs", "fir_step", "fir_block", "fir_block_in_place", "fir_reset"};
 
 /* The slices of a call with room behind each, their lengths, and the other arguments. */
-enum slice { NUMBERS, COUNTS, TAPS, SAMPLES, FIR_COUNTS, INPUT, OUTPUT, ANSWER, CLOUDED, SLICES };
+enum slice { NUMBERS, COUNTS, TAPS, SAMPLES, FIR_COUNTS, INPUT, OUTPUT, BUFFER, ANSWER, CLOUDED, SLICES };
 struct lent {
-    double numbers[40], taps[80], samples[80], input[80], output[80], answer[4];
+    double numbers[40], taps[80], samples[80], input[80], output[80], buffer[80], answer[4];
     size_t counts[6], fir_counts[6], clouded[4];
     size_t length[SLICES];
     size_t size, window;
@@ -39,7 +40,7 @@ static void check(int good, const char *what) {
 /* A good call of any function: a cascade of two sections and a first-order part, a FIR of three taps that holds two. */
 static struct lent good(void) {
     struct lent s;
-    static const size_t length[SLICES] = {PULSE_NUMBERS_LEN, PULSE_CASCADE_COUNTS_LEN, PULSE_TAPS_LEN, PULSE_SAMPLES_LEN, PULSE_FIR_COUNTS_LEN, 3, 5, 1, 1};
+    static const size_t length[SLICES] = {PULSE_NUMBERS_LEN, PULSE_CASCADE_COUNTS_LEN, PULSE_TAPS_LEN, PULSE_SAMPLES_LEN, PULSE_FIR_COUNTS_LEN, 3, 5, 3, 1, 1};
     memset(&s, 0, sizeof s);
     for (int i = 0; i < 80; i++) {
         if (i < 40)
@@ -48,6 +49,7 @@ static struct lent good(void) {
         s.samples[i] = i + 1;
         s.input[i] = 2 - i;
         s.output[i] = 1000 + i;
+        s.buffer[i] = 2 - i;
     }
     for (int i = 0; i < 4; i++) {
         s.answer[i] = 77;
@@ -73,6 +75,7 @@ static struct lent good(void) {
 #define TAP_RECORD s->taps, s->length[TAPS], s->samples, s->length[SAMPLES], s->fir_counts, s->length[FIR_COUNTS]
 #define THE_INPUT s->input, s->length[INPUT]
 #define THE_OUTPUT s->output, s->length[OUTPUT], s->clouded, s->length[CLOUDED]
+#define THE_BUFFER s->buffer, s->length[BUFFER], s->clouded, s->length[CLOUDED]
 #define THE_ANSWER s->answer, s->length[ANSWER], s->clouded, s->length[CLOUDED]
 
 static uint8_t call(enum function f, struct lent *s) {
@@ -84,17 +87,26 @@ static uint8_t call(enum function f, struct lent *s) {
     case CHEBYSHEV2: return pulse_design_chebyshev2_lp(s->size, s->cutoff, s->decibels, s->rate, CASCADE);
     case CASCADE_STEP: return pulse_cascade_step(CASCADE, s->x, THE_ANSWER);
     case CASCADE_BLOCK: return pulse_cascade_block(CASCADE, THE_INPUT, THE_OUTPUT);
+    case CASCADE_IN_PLACE: return pulse_cascade_block_in_place(CASCADE, THE_BUFFER);
     case CASCADE_RESET: return pulse_cascade_reset(CASCADE);
     case FIR_DESIGN: return pulse_design_fir_lp(s->size, s->cutoff, s->window, TAP_RECORD);
     case FIR_COEFFS: return pulse_fir_from_coeffs(THE_INPUT, TAP_RECORD);
     case FIR_STEP: return pulse_fir_step(TAP_RECORD, s->x, THE_ANSWER);
     case FIR_BLOCK: return pulse_fir_block(TAP_RECORD, THE_INPUT, THE_OUTPUT);
+    case FIR_IN_PLACE: return pulse_fir_block_in_place(TAP_RECORD, THE_BUFFER);
     default: return pulse_fir_reset(TAP_RECORD);
     }
 }
 
-/* The call must return the number and, where that is not 0, change nothing. */
-static void expect(enum function f, struct lent s, uint8_t number, const char *what) {
+/* NaNs, quiet and signalling ones, each with other bits. */
+static void fill_with_nans(double *places, size_t n) {
+    for (size_t i = 0; i < n; i++) {
+        uint64_t bits = (i % 2 ? UINT64_C(0x7FF0000000000001) : UINT64_C(0xFFF8000000000000)) + 8 * i;
+        memcpy(places + i, &bits, sizeof bits);
+    }
+}
+
+static void try_call(enum function f, struct lent s, uint8_t number, const char *what) {
     struct lent before = s;
     uint8_t given = call(f, &s);
     tried++;
@@ -104,9 +116,25 @@ static void expect(enum function f, struct lent s, uint8_t number, const char *w
         fail("something is changed by a refused call", names[f], number, given);
 }
 
+/* The call must return the number and, where that is not 0, change nothing, whatever numbers the slices hold. */
+static void expect(enum function f, struct lent s, uint8_t number, const char *what) {
+    try_call(f, s, number, what);
+    if (!number)
+        return;
+    fill_with_nans(s.numbers, 40);
+    fill_with_nans(s.taps, 80);
+    fill_with_nans(s.samples, 80);
+    fill_with_nans(s.input, 80);
+    fill_with_nans(s.output, 80);
+    fill_with_nans(s.buffer, 80);
+    fill_with_nans(s.answer, 4);
+    try_call(f, s, number, what);
+}
+
 static int is_cascade(enum function f) { return f <= CASCADE_RESET; }
 static int is_design(enum function f) { return f <= CHEBYSHEV2 || f == FIR_DESIGN || f == FIR_COEFFS; }
 static int is_block(enum function f) { return f == CASCADE_BLOCK || f == FIR_BLOCK; }
+static int is_in_place(enum function f) { return f == CASCADE_IN_PLACE || f == FIR_IN_PLACE; }
 static int is_step(enum function f) { return f == CASCADE_STEP || f == FIR_STEP; }
 
 /* Whether 13 watches the length of the slice. */
@@ -115,7 +143,7 @@ static int is_watched(enum function f, enum slice slice) {
     case NUMBERS: case COUNTS: return is_cascade(f);
     case TAPS: case SAMPLES: case FIR_COUNTS: return !is_cascade(f);
     case ANSWER: return is_step(f);
-    case CLOUDED: return is_step(f) || is_block(f);
+    case CLOUDED: return is_step(f) || is_block(f) || is_in_place(f);
     default: return 0;
     }
 }
@@ -146,13 +174,15 @@ static void wrong_lengths(void) {
     }
 }
 
-/* A count of the state, or of a call, set to a value that is refused, alone and before a short output. */
+/* A count of the state, or of a call, set to a value that is refused: alone, before a short output, and with no sample. */
 static void refused_count(enum function f, size_t place, size_t value, uint8_t number) {
     struct lent s = good();
     (is_cascade(f) ? s.counts : s.fir_counts)[place] = value;
     expect(f, s, number, "a damaged state");
     s.length[OUTPUT] = 0;
     expect(f, s, number, "a damaged state before a short output");
+    s.length[INPUT] = s.length[BUFFER] = 0;
+    expect(f, s, number, "a damaged state and no sample");
     if (number == PULSE_BAD_CALL) {
         spoil(&s);
         expect(f, s, number, "a bad flag before any other refusal");
@@ -316,6 +346,118 @@ static void fir_places(void) {
     check(s.samples[64] == 65 && s.fir_counts[PULSE_LENGTH] == 3 && s.fir_counts[PULSE_HELD] == 0 && s.fir_counts[PULSE_WINDOW] == 4, "counts of a reset FIR");
 }
 
+enum { LONGEST = 600, GUARDS = 8 };
+
+/* What a block over two arrays, or one in place, comes to: the state, the answers with guard places behind them, the count. */
+struct outcome {
+    struct lent state;
+    double answers[LONGEST + GUARDS];
+    size_t clouded;
+    uint8_t refusal;
+};
+
+static uint8_t over_two_arrays(int cascade, struct lent *s, const double *input, double *output, size_t n, size_t *clouded) {
+    return cascade ? pulse_cascade_block(CASCADE, input, n, output, n, clouded, 1) : pulse_fir_block(TAP_RECORD, input, n, output, n, clouded, 1);
+}
+
+static uint8_t in_place(int cascade, struct lent *s, double *buffer, size_t n, size_t *clouded) {
+    return cascade ? pulse_cascade_block_in_place(CASCADE, buffer, n, clouded, 1) : pulse_fir_block_in_place(TAP_RECORD, buffer, n, clouded, 1);
+}
+
+/* Samples: finite ones alone, or with a NaN in the middle, an infinity at the end, or an infinity in front. */
+enum { MOODS = 4 };
+static void fill_with_samples(double *places, size_t n, int mood) {
+    for (size_t i = 0; i < n; i++)
+        places[i] = (double)(i * 37 % 101) / 16 - 3;
+    if (n && mood == 1)
+        fill_with_nans(places + n / 2, 1);
+    if (n && mood >= 2)
+        places[mood == 2 ? n - 1 : 0] = mood == 2 ? INFINITY : -INFINITY;
+}
+
+static int same(const double *a, const double *b, size_t n) {
+    for (size_t i = 0; i < n; i++)
+        if (memcmp(a + i, b + i, sizeof *a) && !(isnan(a[i]) && isnan(b[i])))
+            return 0;
+    return 1;
+}
+
+/* A cascade with an unused section, or a FIR of 40 taps that holds 17 samples: a place that a call leaves holds a NaN. */
+static struct lent long_state(void) {
+    struct lent s = good();
+    fill_with_nans(s.numbers + 2 * PULSE_SECTION_LEN, 2 * PULSE_SECTION_LEN);
+    fill_with_nans(s.samples + 40, 40);
+    fill_with_nans(s.taps + 40, 40);
+    s.fir_counts[PULSE_LENGTH] = 40;
+    s.fir_counts[PULSE_HELD] = 17;
+    return s;
+}
+
+/* Whether the places that neither call writes have their very bits, and the others are the same in both. */
+static int agree(const struct outcome *a, const struct outcome *b, size_t n) {
+    struct lent before = long_state(), left = b->state;
+    int kept = memcmp(left.numbers + 14, before.numbers + 14, 14 * sizeof(double)) == 0 && memcmp(left.taps, before.taps, sizeof left.taps) == 0
+        && memcmp(left.samples + 40, before.samples + 40, 40 * sizeof(double)) == 0 && memcmp(a->answers + n, b->answers + n, GUARDS * sizeof(double)) == 0;
+    return kept && a->refusal == b->refusal && a->clouded == b->clouded && same(a->answers, b->answers, n) && same(a->state.numbers, left.numbers, 40)
+        && same(a->state.samples, left.samples, 80) && memcmp(a->state.counts, left.counts, sizeof left.counts) == 0
+        && memcmp(a->state.fir_counts, left.fir_counts, sizeof left.fir_counts) == 0;
+}
+
+/* A block in place, beside the block over two arrays. */
+static void in_place_and_apart(int cascade, size_t n, int mood) {
+    static double input[LONGEST];
+    static struct outcome two, one;
+    two.state = long_state();
+    two.clouded = 99;
+    fill_with_nans(two.answers, LONGEST + GUARDS);
+    one = two;
+    fill_with_samples(input, n, mood);
+    memcpy(one.answers, input, n * sizeof *input);
+    two.refusal = over_two_arrays(cascade, &two.state, input, two.answers, n, &two.clouded);
+    one.refusal = in_place(cascade, &one.state, one.answers, n, &one.clouded);
+    check(one.refusal == 0 && agree(&two, &one, n), cascade ? "a cascade's block in place" : "a FIR's block in place");
+}
+
+/* Marks and answers of blocks in place, by hand: a cascade that passes samples on, a FIR of the one tap 2. */
+static void in_place_by_hand(void) {
+    struct lent s = good();
+    s.counts[PULSE_SECTIONS] = 1;
+    s.counts[PULSE_HAS_FIRST] = 0;
+    memset(s.numbers, 0, PULSE_SECTION_LEN * sizeof(double));
+    s.numbers[PULSE_B0] = 1;
+    s.buffer[1] = INFINITY;
+    call(CASCADE_IN_PLACE, &s);
+    check(s.buffer[0] == 2 && isinf(s.buffer[1]) && s.buffer[3] == -1 && s.clouded[0] == 2 && s.clouded[1] == 99 && s.counts[PULSE_CLOUD] == 1, "a cascade in place");
+    s = good();
+    s.taps[0] = 2;
+    s.fir_counts[PULSE_LENGTH] = s.fir_counts[PULSE_HELD] = 1;
+    s.buffer[1] = NAN;
+    call(FIR_IN_PLACE, &s);
+    check(s.buffer[0] == 4 && isnan(s.buffer[1]) && s.buffer[2] == 0 && s.buffer[3] == -1 && s.clouded[0] == 1 && s.clouded[1] == 99, "a FIR in place");
+    check(s.samples[0] == 0 && s.samples[1] == 2 && s.fir_counts[PULSE_HELD] == 1, "the record after a block in place");
+}
+
+/* An empty buffer leaves all but the count. */
+static void empty_in_place(enum function f) {
+    struct lent s = good(), old;
+    s.length[BUFFER] = 0;
+    fill_with_nans(s.buffer, 80);
+    old = s;
+    old.clouded[0] = 0;
+    check(call(f, &s) == 0 && memcmp(&s, &old, sizeof s) == 0, "an empty buffer");
+}
+
+static void blocks_in_place(void) {
+    in_place_by_hand();
+    empty_in_place(CASCADE_IN_PLACE);
+    empty_in_place(FIR_IN_PLACE);
+    for (size_t n = 0; n <= LONGEST; n++)
+        for (int mood = 0; mood < MOODS; mood++) {
+            in_place_and_apart(0, n, mood);
+            in_place_and_apart(1, n, mood);
+        }
+}
+
 int main(void) {
     wrong_lengths();
     damaged_states();
@@ -325,6 +467,7 @@ int main(void) {
     cascade_places();
     fir_places();
     overflow();
+    blocks_in_place();
     printf("states: %u tried, %u otherwise than expected\n", tried, failed);
     return failed ? 1 : 0;
 }

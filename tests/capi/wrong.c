@@ -23,6 +23,9 @@ enum wrong {
     COUNT_TRUNCATED,        /* the section count is taken modulo 2^32 */
     LENGTH_IGNORED,         /* a longer `numbers` is accepted */
     LOW_IS_HIGH,            /* the low pass is the high pass */
+    HIGH_IS_LOW,            /* the high pass is the low pass */
+    HIGH_ORDER_9,           /* a high pass of order 9 is taken as of order 8 */
+    TYPE_ONE_IS_TWO,        /* Chebyshev I is Chebyshev II */
     RATE_AFTER_CUTOFF,      /* 2 before 3 */
     REFUSED_BLANKS,         /* a refused design writes the blank record */
     UNUSED_IDENTITY,        /* unused sections of a design have b0 = 1, as in the Rust */
@@ -48,6 +51,17 @@ enum wrong {
     FIR_RESET_CODE,         /* a reset makes the window code 0 */
     WINDOW_5,               /* a record with window code 5 is accepted */
     HELD_ABOVE,             /* a held count above the length is taken as the length */
+    /* Blocks in place of a cascade, and the same of a FIR. */
+    CASCADE_FIRST_PART,     /* answers the first 256 places alone */
+    CASCADE_LAST_COUNT,     /* counts the answers from the last multiple of 256 on */
+    CASCADE_REFUSED_WRITES, /* a refused call writes the buffer */
+    CASCADE_STATE_STAYS,    /* the state is as before the call */
+    CASCADE_FORGETS,        /* every 256 places starts from no sample */
+    FIR_FIRST_PART,
+    FIR_LAST_COUNT,
+    FIR_REFUSED_WRITES,
+    FIR_STATE_STAYS,
+    FIR_FORGETS,
     WRONGS
 };
 
@@ -81,8 +95,13 @@ static uint8_t designed(uint8_t number, CASCADE, size_t cloud) {
     return number;
 }
 
+uint8_t __real_pulse_design_butterworth_lp(size_t order, double cutoff, double rate, CASCADE);
 REAL(pulse_design_butterworth_hp, size_t order, double cutoff, double rate, CASCADE) {
     size_t cloud = cl == 3 ? c[2] : 0;
+    if (is(HIGH_IS_LOW))
+        return __real_pulse_design_butterworth_lp(order, cutoff, rate, n, nl, c, cl);
+    if (order == 9 && is(HIGH_ORDER_9))
+        order = 8;
     return designed(__real_pulse_design_butterworth_hp(order, cutoff, rate, n, nl, c, cl), n, nl, c, cl, cloud);
 }
 
@@ -110,8 +129,11 @@ REAL(pulse_design_butterworth_bp, size_t order, double low, double high, double 
     return designed(number, n, nl, c, cl, cloud);
 }
 
+uint8_t __real_pulse_design_chebyshev2_lp(size_t order, double cutoff, double decibels, double rate, CASCADE);
 REAL(pulse_design_chebyshev1_lp, size_t order, double cutoff, double decibels, double rate, CASCADE) {
     size_t cloud = cl == 3 ? c[2] : 0;
+    if (is(TYPE_ONE_IS_TWO))
+        return __real_pulse_design_chebyshev2_lp(order, cutoff, decibels, rate, n, nl, c, cl);
     uint8_t number = __real_pulse_design_chebyshev1_lp(order, cutoff, decibels, rate, n, nl, c, cl);
     if (number == 1 && !(decibels > 0) && is(RIPPLE_FIRST))
         return 4;
@@ -260,4 +282,84 @@ REAL(pulse_fir_reset, const double *t, size_t tl, TAP_RECORD) {
     if (!number && is(FIR_RESET_CODE))
         c[2] = 0;
     return number;
+}
+
+/* Blocks in place. The filter's slices; `t` is null of a cascade, whose `n` are its numbers, and of a FIR `n` are its samples. */
+enum { PART = 256, LONGEST = 1024 };
+struct filter {
+    const double *t;
+    size_t tl;
+    double *n;
+    size_t nl;
+    size_t *c;
+    size_t cl;
+};
+#define PLACE double *b, size_t bl, size_t *k, size_t kl
+uint8_t __real_pulse_cascade_block_in_place(CASCADE, PLACE);
+uint8_t __real_pulse_fir_block_in_place(const double *t, size_t tl, TAP_RECORD, PLACE);
+
+static uint8_t run(struct filter f, PLACE) {
+    return f.t ? __real_pulse_fir_block_in_place(f.t, f.tl, f.n, f.nl, f.c, f.cl, b, bl, k, kl)
+               : __real_pulse_cascade_block_in_place(f.n, f.nl, f.c, f.cl, b, bl, k, kl);
+}
+
+static void forget(struct filter f) {
+    if (f.t)
+        __real_pulse_fir_reset(f.t, f.tl, f.n, f.nl, f.c, f.cl);
+    else
+        __real_pulse_cascade_reset(f.n, f.nl, f.c, f.cl);
+}
+
+/* Each part by itself from no sample, but for the first. */
+static uint8_t run_forgetting(struct filter f, PLACE) {
+    size_t clouded, all = 0;
+    uint8_t number = run(f, b, bl < PART ? bl : PART, k, kl);
+    if (number)
+        return number;
+    for (size_t from = PART; from < bl; from += PART) {
+        forget(f);
+        run(f, b + from, bl - from < PART ? bl - from : PART, &clouded, 1);
+        all += clouded;
+    }
+    k[0] += all;
+    return 0;
+}
+
+/* What blocks in place may do wrong; `first` is the first of their errors. Slices of wrong lengths and long buffers go past. */
+static uint8_t ran(enum wrong first, struct filter f, PLACE) {
+    double samples[LONGEST], numbers[64];
+    size_t counts[3], clouded;
+    if (f.nl > 64 || f.cl != 3 || bl > LONGEST)
+        return run(f, b, bl, k, kl);
+    if (is(first + 4))
+        return run_forgetting(f, b, bl, k, kl);
+    memcpy(samples, b, bl * sizeof *b);
+    memcpy(numbers, f.n, f.nl * sizeof *numbers);
+    memcpy(counts, f.c, sizeof counts);
+    uint8_t number = run(f, b, bl, k, kl);
+    if (number && bl && is(first + 2))
+        b[0] = 0;
+    if (number)
+        return number;
+    if (bl > PART && is(first))
+        memcpy(b + PART, samples + PART, (bl - PART) * sizeof *b);
+    if (bl > PART && is(first + 1)) {
+        run((struct filter){f.t, f.tl, numbers, f.nl, counts, f.cl}, samples, (bl - 1) / PART * PART, &clouded, 1);
+        k[0] -= clouded;
+    }
+    if (is(first + 3)) {
+        memcpy(f.n, numbers, f.nl * sizeof *numbers);
+        memcpy(f.c, counts, sizeof counts);
+    }
+    return 0;
+}
+
+REAL(pulse_cascade_block_in_place, CASCADE, PLACE) {
+    take(&nl, c, cl);
+    return ran(CASCADE_FIRST_PART, (struct filter){0, 0, n, nl, c, cl}, b, bl, k, kl);
+}
+
+REAL(pulse_fir_block_in_place, const double *t, size_t tl, TAP_RECORD, PLACE) {
+    take_taps(c, cl);
+    return ran(FIR_FIRST_PART, (struct filter){t, tl, s, sl, c, cl}, b, bl, k, kl);
 }
