@@ -69,7 +69,7 @@ module _ (K : Kind) (B : ReadBack K) where
   abbrev Verdict : ℕ → List Float → List ℕ → List Float → List ℕ → Call → Outcome → Type 0
   Verdict r numbers counts numbers′ counts′ c o = ((r ≡ BadCall) × Left numbers counts numbers′ counts′) ⊎ ((r ≡ BadCall → ⊥) × Shown K numbers counts numbers′ counts′ c o)
 
-  good-after : (s : F .State) (xs : List Float) → F .check s ≡ true → B .Good s → B .Good (after F s xs)
+  pub good-after : (s : F .State) (xs : List Float) → F .check s ≡ true → B .Good s → B .Good (after F s xs)
   unfolding after
   good-after s [] h g = g
   good-after s (x ∷ xs) h g = rw (step-is F s x h) (good-after (F .next s x) xs (B .keeps s x h) (B .good-next s x h g))

@@ -4,7 +4,8 @@ ghost use Rattle.calls.specs.Kinds.{cascadeKind};
 ghost use Rattle.calls.specs.Calls.{stepCall, blockCall, blockInPlaceCall, resetCall};
 use super::answer::put;
 use super::answer::single;
-use in_place::cascade_block;
+use c_blocks::cascade_block;
+use c_blocks::cascade_block_in_place;
 use layout::fits;
 use layout::read;
 use layout::write;
@@ -50,20 +51,7 @@ pub extern "C" fn pulse_cascade_block(
     ensures { λ r. ⌜ record { refusal = r; numbers = now (numbers .exit); counts = now (counts .exit); answers = now (output .exit); clouded = now (clouded .exit) }
         ≡ blockCall cascadeKind (now (numbers .entry)) (now (counts .entry)) (now (input .entry)) (now (output .entry)) (now (clouded .entry)) ⌝ }
 {
-    if clouded.len() != 1 {
-        return runs::BAD_CALL;
-    }
-    if !fits(numbers, counts) {
-        return runs::BAD_CALL;
-    }
-    let b = read(numbers, counts).block(input, output);
-    let refusal = b.refusal;
-    if refusal != 0 {
-        return refusal;
-    }
-    write(b.cascade, numbers, counts);
-    clouded[0] = b.clouded;
-    0
+    cascade_block(numbers, counts, input, output, clouded)
 }
 
 // A block in place.
@@ -77,20 +65,7 @@ pub extern "C" fn pulse_cascade_block_in_place(
     ensures { λ r. ⌜ record { refusal = r; numbers = now (numbers .exit); counts = now (counts .exit); answers = now (buffer .exit); clouded = now (clouded .exit) }
         ≡ blockInPlaceCall cascadeKind (now (numbers .entry)) (now (counts .entry)) (now (buffer .entry)) (now (clouded .entry)) ⌝ }
 {
-    if clouded.len() != 1 {
-        return runs::BAD_CALL;
-    }
-    if !fits(numbers, counts) {
-        return runs::BAD_CALL;
-    }
-    let ran = cascade_block(read(numbers, counts), buffer);
-    let refusal = ran.refusal;
-    if refusal != 0 {
-        return refusal;
-    }
-    write(ran.cascade, numbers, counts);
-    clouded[0] = ran.clouded;
-    0
+    cascade_block_in_place(numbers, counts, buffer, clouded)
 }
 
 // A reset.

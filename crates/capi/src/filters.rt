@@ -4,7 +4,8 @@ ghost use Rattle.calls.specs.Kinds.{firKind};
 ghost use Rattle.calls.specs.Calls.{stepCall, blockCall, blockInPlaceCall, resetCall};
 use super::answer::put;
 use super::answer::single;
-use in_place::fir_block;
+use c_blocks::fir_block;
+use c_blocks::fir_block_in_place;
 use layout::COUNTS;
 
 // One sample x.
@@ -50,28 +51,7 @@ pub extern "C" fn pulse_fir_block(
     ensures { λ r. ⌜ record { refusal = r; numbers = now (samples .exit); counts = now (counts .exit); answers = now (output .exit); clouded = now (clouded .exit) }
         ≡ blockCall (firKind (now (taps .entry))) (now (samples .entry)) (now (counts .entry)) (now (input .entry)) (now (output .entry)) (now (clouded .entry)) ⌝ }
 {
-    if clouded.len() != 1 {
-        return runs::BAD_CALL;
-    }
-    if counts.len() != COUNTS {
-        return runs::BAD_CALL;
-    }
-    let b = blocks::block(
-        taps,
-        samples,
-        counts[0],
-        counts[1],
-        counts[2],
-        input,
-        output,
-    );
-    let refusal = b.refusal;
-    if refusal != 0 {
-        return refusal;
-    }
-    counts[1] = b.held;
-    clouded[0] = b.clouded;
-    0
+    fir_block(taps, samples, counts, input, output, clouded)
 }
 
 // A block in place.
@@ -86,20 +66,7 @@ pub extern "C" fn pulse_fir_block_in_place(
     ensures { λ r. ⌜ record { refusal = r; numbers = now (samples .exit); counts = now (counts .exit); answers = now (buffer .exit); clouded = now (clouded .exit) }
         ≡ blockInPlaceCall (firKind (now (taps .entry))) (now (samples .entry)) (now (counts .entry)) (now (buffer .entry)) (now (clouded .entry)) ⌝ }
 {
-    if clouded.len() != 1 {
-        return runs::BAD_CALL;
-    }
-    if counts.len() != COUNTS {
-        return runs::BAD_CALL;
-    }
-    let ran = fir_block(taps, samples, counts[0], counts[1], counts[2], buffer);
-    let refusal = ran.refusal;
-    if refusal != 0 {
-        return refusal;
-    }
-    counts[1] = ran.held;
-    clouded[0] = ran.clouded;
-    0
+    fir_block_in_place(taps, samples, counts, buffer, clouded)
 }
 
 // A reset.

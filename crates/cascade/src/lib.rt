@@ -96,7 +96,7 @@ impl Cascade {
     }
 
     // Whether the record passes its check. One that does not is refused by 11.
-    pub fn check(self) -> bool
+    fn check(self) -> bool
         ensures { λ r. ⌜ r ≡ checkCascade (cascadeView self) ⌝ }
     {
         if self.count > Cascade::MAX_SECTIONS {

@@ -1,10 +1,10 @@
--- `capi::filters::pulse_fir_block` meets its contract. Assumes nothing.
+-- `c_blocks::filters::fir_block` meets its contract.
 use Rattle.calls.specs.Kinds.{firKind}
 use Rattle.layout.proofs.Places.{set-one}
 use Rattle.calls.proofs.Laws.{block-not-single, block-unfit, uncounted, fir-block-refused, fir-block-accepted}
 use borrow.Author.Needs.{needs}
-use Rattle.capi.proofs.filters.pulse_fir_block.Statement.{statement}
-use Rattle.capi.proofs.filters.pulse_fir_block.Tie as tie
+use Rattle.c_blocks.proofs.filters.fir_block.Statement.{statement}
+use Rattle.c_blocks.proofs.filters.fir_block.Tie as tie
 
 abbrev start : tie.Else1 → tie.Start
 start e = e .before .before .before .before .before .before .before
@@ -61,8 +61,8 @@ returns-4 c = let a = start (c .before .before .before .before .before .before .
     fir-block-accepted (a .taps .now) (a .samples .now) (a .counts .now) (c .before .before .before .before .before .before .before .before .before .before .before .if2 .left) (a .input .now) (a .output .now) (a .clouded .now) (c .before .before .before .before .before .before .before .before .before .before .before .before .if1 .left) (c .before .before .before .before .before .block .ensures) (c .if3 .left)
     (set-one (a .clouded .now) _ (c .before .before .before .before .before .before .before .before .before .before .before .before .if1 .left))
 
-pub pulse-fir-block-spec : {M : Type 1} → statement M
-pulse-fir-block-spec =
+pub fir-block-spec : {M : Type 1} → statement M
+fir-block-spec =
     tie.close
     (tie.spec
     returns

@@ -1,4 +1,4 @@
--- `capi::cascades::pulse_cascade_block` meets its contract. Assumes nothing.
+-- `c_blocks::cascades::cascade_block` meets its contract.
 use mathlib.Core.Path.{_≡_, sym, _∙_}
 use mathlib.Core.Bool.{true}
 use borrow.Author.Tests.{not-true, not-false}
@@ -11,8 +11,8 @@ use Rattle.layout.proofs.Places.{set-one}
 use Rattle.layout.proofs.Laws.{fits-places}
 use Rattle.calls.proofs.Laws.{read-is, numbers-are, counts-are, block-not-single, block-unfit, lend-block, block-refused, block-accepted}
 use borrow.Author.Needs.{needs}
-use Rattle.capi.proofs.cascades.pulse_cascade_block.Statement.{statement}
-use Rattle.capi.proofs.cascades.pulse_cascade_block.Tie as tie
+use Rattle.c_blocks.proofs.cascades.cascade_block.Statement.{statement}
+use Rattle.c_blocks.proofs.cascades.cascade_block.Tie as tie
 
 abbrev start : tie.Else1 → tie.Start
 start e = e .before .before .before .before .before .before
@@ -91,8 +91,8 @@ returns-4 c = let r = c .before .before .before .before .before .before .before 
     let t = fits-places _ _ (fit (else2 r)) in
     block-accepted cascadeKind _ _ _ _ _ (e .if1 .left) (accepted r) (c .before .before .before .before .before .before .before .if3 .left) (numbers-are _ _ _ t (w .1)) (counts-are _ _ _ t (w .2)) (set-one (start e .args .clouded .now) _ (e .if1 .left))
 
-pub pulse-cascade-block-spec : {M : Type 1} → statement M
-pulse-cascade-block-spec =
+pub cascade-block-spec : {M : Type 1} → statement M
+cascade-block-spec =
     tie.close
     (tie.spec
     returns

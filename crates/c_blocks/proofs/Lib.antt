@@ -1,0 +1,2 @@
+-- The parts of a block in place.
+pub mod InPlace

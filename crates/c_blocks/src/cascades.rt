@@ -1,0 +1,100 @@
+// Blocks of a lent cascade.
+ghost use mathlib.Core.Path.{_≡_};
+ghost use Prim.Native.Nat.{_≤_};
+ghost use lib.ListN.{length};
+ghost use Rattle.runs.specs.Refusals.{Accepted};
+ghost use Rattle.calls.specs.Kinds.{cascadeKind};
+ghost use Rattle.calls.specs.Calls.{blockCall, blockInPlaceCall};
+ghost use Rattle.c_blocks.specs.Ready.{Ready};
+use super::parts::no_samples;
+use super::parts::part_end;
+use layout::fits;
+use layout::read;
+use layout::write;
+use lists::copy;
+
+// A block of samples.
+pub fn cascade_block(
+    numbers: &mut [f64],
+    counts: &mut [usize],
+    input: &[f64],
+    output: &mut [f64],
+    clouded: &mut [usize],
+) -> u8
+    ensures { λ r. ⌜ record { refusal = r; numbers = now (numbers .exit); counts = now (counts .exit); answers = now (output .exit); clouded = now (clouded .exit) }
+        ≡ blockCall cascadeKind (now (numbers .entry)) (now (counts .entry)) (now (input .entry)) (now (output .entry)) (now (clouded .entry)) ⌝ }
+{
+    if clouded.len() != 1 {
+        return runs::BAD_CALL;
+    }
+    if !fits(numbers, counts) {
+        return runs::BAD_CALL;
+    }
+    let b = read(numbers, counts).block(input, output);
+    let refusal = b.refusal;
+    if refusal != 0 {
+        return refusal;
+    }
+    write(b.cascade, numbers, counts);
+    clouded[0] = b.clouded;
+    0
+}
+
+// A part of a block in place, from a copy to its places.
+fn cascade_part(
+    numbers: &mut [f64],
+    counts: &mut [usize],
+    part: &mut [f64],
+    clouded: &mut [usize],
+) -> u8
+    requires { ⌜ length (now part) ≤ 256 ⌝ }
+    ensures { λ r. ⌜ record { refusal = r; numbers = now (numbers .exit); counts = now (counts .exit); answers = now (part .exit); clouded = now (clouded .exit) }
+        ≡ blockInPlaceCall cascadeKind (now (numbers .entry)) (now (counts .entry)) (now (part .entry)) (now (clouded .entry)) ⌝ }
+{
+    let n = part.len();
+    let mut input = no_samples();
+    copy(part, &mut input);
+    cascade_block(numbers, counts, &input[..n], part, clouded)
+}
+
+// The parts one after the other, over slices that an accepted block left.
+fn cascade_parts(
+    numbers: &mut [f64],
+    counts: &mut [usize],
+    buffer: &mut [f64],
+    clouded: &mut [usize],
+)
+    requires { ⌜ Ready cascadeKind (now numbers) (now counts) (now clouded) ⌝ }
+    ensures { λ _. ⌜ record { refusal = Accepted; numbers = now (numbers .exit); counts = now (counts .exit); answers = now (buffer .exit); clouded = now (clouded .exit) }
+        ≡ blockInPlaceCall cascadeKind (now (numbers .entry)) (now (counts .entry)) (now (buffer .entry)) (now (clouded .entry)) ⌝ }
+{
+    let mut total: usize = 0;
+    let mut from: usize = 0;
+    while from < buffer.len() {
+        let to = part_end(from, buffer.len());
+        cascade_part(numbers, counts, &mut buffer[from..to], clouded);
+        total += clouded[0];
+        from = to;
+    }
+    clouded[0] = total;
+}
+
+// A block in place: an empty block, which tests the slices and the record, and then the parts.
+pub fn cascade_block_in_place(
+    numbers: &mut [f64],
+    counts: &mut [usize],
+    buffer: &mut [f64],
+    clouded: &mut [usize],
+) -> u8
+    ensures { λ r. ⌜ record { refusal = r; numbers = now (numbers .exit); counts = now (counts .exit); answers = now (buffer .exit); clouded = now (clouded .exit) }
+        ≡ blockInPlaceCall cascadeKind (now (numbers .entry)) (now (counts .entry)) (now (buffer .entry)) (now (clouded .entry)) ⌝ }
+{
+    let none: usize = 0;
+    let input = no_samples();
+    let refusal = cascade_block(numbers, counts, &input[..none], buffer, clouded);
+    if refusal != 0 {
+        return refusal;
+    }
+    cascade_parts(numbers, counts, buffer, clouded);
+    0
+}
