@@ -26,14 +26,14 @@
  *     pulse_design_chebyshev1_lp          1640
  *     pulse_design_chebyshev2_lp          1640
  *     pulse_cascade_step                     8
- *     pulse_cascade_block                 1008
- *     pulse_cascade_block_in_place        3376
+ *     pulse_cascade_block                  464
+ *     pulse_cascade_block_in_place        2656
  *     pulse_cascade_reset                    8
  *     pulse_design_fir_lp                 2248
  *     pulse_fir_from_coeffs               1624
  *     pulse_fir_step                        16
- *     pulse_fir_block                     2408
- *     pulse_fir_block_in_place            4536
+ *     pulse_fir_block                     2360
+ *     pulse_fir_block_in_place            4520
  *     pulse_fir_reset                       24
  *
  * These are bounds, which `tools/stack` reads off the archive's machine code; no function calls itself. They leave out what

@@ -90,7 +90,7 @@ pub fn cascade_block_in_place(
         ≡ blockInPlaceCall cascadeKind (now (numbers .entry)) (now (counts .entry)) (now (buffer .entry)) (now (clouded .entry)) ⌝ }
 {
     let none: usize = 0;
-    let input = no_samples();
+    let input = [0.0; 1];
     let refusal = cascade_block(numbers, counts, &input[..none], buffer, clouded);
     if refusal != 0 {
         return refusal;

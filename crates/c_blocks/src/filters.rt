@@ -100,7 +100,7 @@ pub fn fir_block_in_place(
         ≡ blockInPlaceCall (firKind (now (taps .entry))) (now (samples .entry)) (now (counts .entry)) (now (buffer .entry)) (now (clouded .entry)) ⌝ }
 {
     let none: usize = 0;
-    let input = no_samples();
+    let input = [0.0; 1];
     let refusal = fir_block(taps, samples, counts, &input[..none], buffer, clouded);
     if refusal != 0 {
         return refusal;

@@ -41,7 +41,6 @@ pub fir-block-in-place-spec : {M : Type 1} → statement M
 fir-block-in-place-spec =
     tie.close
     (tie.spec
-    (λ c κs. search needs)
     (λ c. search needs)
     (λ c. search needs)
     (λ c κs. search needs)
