@@ -5,7 +5,7 @@ use Rattle.ieee.specs.Sqrt.{sqrtOf}
 use Rattle.scalar.specs.Operators.{_⊕_, _⊖_, _⊗_, _⊘_}
 use Rattle.scalar.specs.Constants.{plusZero, one, two, half}
 use Rattle.scalar.specs.Sign.{absOf}
-use Rattle.sections.specs.Section.{Biquad, newBiquad}
+use Rattle.cascade_theory.specs.Section.{Biquad, newBiquad}
 
 -- two poles by their sum and product, with the bandwidth bw
 unfoldable pub bandBiquad : Float → Float → Float → Biquad

@@ -9,10 +9,10 @@ ghost use lib.ListN.{length, take, drop};
 ghost use lib.Ieee.{binary64};
 ghost use Rattle.runs.specs.Runs.{block};
 ghost use Rattle.runs.specs.Lent.{lentBlock};
-ghost use Rattle.convolution.specs.Convolution.{spliced};
-ghost use Rattle.taps.specs.Fir.{checkTaps, fir};
-ghost use Rattle.taps.specs.Lent.{capacity, lentTaps, fits};
-ghost use Rattle.blocks.specs.Blocks.{backFrom, finiteRun, ageAfter, cloudsFrom, newestOf, ranBlock, FullRun};
+ghost use Rattle.fir_theory.specs.Convolution.{spliced};
+ghost use Rattle.fir_theory.specs.Fir.{checkTaps, fir};
+ghost use Rattle.fir_theory.specs.Lent.{capacity, lentTaps, fits};
+ghost use Rattle.fir_theory.specs.Blocks.{backFrom, finiteRun, ageAfter, cloudsFrom, newestOf, ranBlock, FullRun};
 
 // What a block returns: 0 or the refusal number, how many answers were Clouded, and the held count after it.
 pub struct Blocked {

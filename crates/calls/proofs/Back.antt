@@ -9,15 +9,15 @@ use lib.ListN.{length, length-map, length-replicate}
 use lib.Ieee.{Float, Format, binary64}
 use borrow.Author.Tests.{eq-eqb}
 use Rattle.runs.specs.Runs.{plusZero}
-use Rattle.sections.specs.Section.{Biquad, clearedBiquad, sectionOut}
-use Rattle.parts.specs.Parts.{sectionsNext}
-use Rattle.cascade.specs.Cascade.{CascadeRecord, clearedCascade, entered, moved, next}
-use Rattle.cascade.proofs.Laws.{check-next}
-use Rattle.taps.specs.Fir as Fir
-use Rattle.taps.specs.Fir.{TapsRecord, clearedTaps}
-use Rattle.taps.specs.Lent.{capacity, fits}
-use Rattle.taps.proofs.Laws as Taps
-use Rattle.taps.proofs.Laws.{fits-next, fits-lengths, lengths-fit}
+use Rattle.cascade_theory.specs.Section.{Biquad, clearedBiquad, sectionOut}
+use Rattle.cascade_theory.specs.Parts.{sectionsNext}
+use Rattle.cascade_theory.specs.Cascade.{CascadeRecord, clearedCascade, entered, moved, next}
+use Rattle.cascade_theory.proofs.Laws.{check-next}
+use Rattle.fir_theory.specs.Fir as Fir
+use Rattle.fir_theory.specs.Fir.{TapsRecord, clearedTaps}
+use Rattle.fir_theory.specs.Lent.{capacity, fits}
+use Rattle.fir_theory.proofs.Laws as Taps
+use Rattle.fir_theory.proofs.Laws.{fits-next, fits-lengths, lengths-fit}
 use Rattle.layout.specs.Layout.{cascadeAt, cascadeNumbers, sectionsNumbers, cascadeCounts, cascadePlaces, cascadeFits}
 use Rattle.layout.proofs.Places.{both}
 use Rattle.calls.specs.Kinds.{tapsAt, tapsCounts, tapsFit, cascadeKind, firKind}

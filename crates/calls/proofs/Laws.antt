@@ -11,10 +11,10 @@ use Rattle.runs.specs.Refusals.{Accepted, BadCall}
 use Rattle.runs.specs.Runs.{Filter, Answer, Step, Reset, Block, numberOf, isClouded, refusalOf, step, reset, block}
 use Rattle.runs.specs.Lent.{lentStep, lentReset, lentBlock}
 use Rattle.runs.proofs.Lent.{lent-step, lent-reset, lent-block, unfit-step, unfit-reset, unfit-block, step-keeps, reset-keeps, block-keeps}
-use Rattle.taps.specs.Fir.{TapsRecord, Made, fir}
-use Rattle.taps.specs.Lent.{capacity, lentTaps, fits}
+use Rattle.fir_theory.specs.Fir.{TapsRecord, Made, fir}
+use Rattle.fir_theory.specs.Lent.{capacity, lentTaps, fits}
 use Rattle.designs.specs.Design.{DesignRecord}
-use Rattle.cascade.specs.Cascade.{CascadeRecord, blankCascade}
+use Rattle.cascade_theory.specs.Cascade.{CascadeRecord, blankCascade}
 use Rattle.layout.proofs.Laws.{fits-places, cond-true}
 use Rattle.layout.specs.Layout.{flag, cascadeAt, cascadePlaces, cascadeFits, cascadeNumbers, cascadeCounts}
 use Rattle.calls.specs.Kinds.{Kind, tapsCounts, tapsAt, tapsFit, firKind}

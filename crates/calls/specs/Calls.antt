@@ -8,8 +8,8 @@ use lib.Ieee.{Float}
 use Rattle.runs.specs.Refusals.{Accepted, BadCall}
 use Rattle.runs.specs.Runs.{numberOf, isClouded, refusalOf, Step, Block}
 use Rattle.runs.specs.Lent.{lentStep, lentReset, lentBlock}
-use Rattle.taps.specs.Fir.{Made, Blackman}
-use Rattle.taps.specs.Lent.{capacity}
+use Rattle.fir_theory.specs.Fir.{Made, Blackman}
+use Rattle.fir_theory.specs.Lent.{capacity}
 use Rattle.windows.specs.Fir.{firLp}
 use Rattle.windows.specs.declared.WindowType.{WindowType}
 use Rattle.designs.specs.Design.{DesignRecord}

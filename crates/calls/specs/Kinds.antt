@@ -6,10 +6,10 @@ use lib.Dec.{eqb}
 use lib.ListN.{length, getD}
 use lib.Ieee.{Float, binary64}
 use Rattle.runs.specs.Runs.{Filter}
-use Rattle.cascade.specs.Cascade.{cascade}
+use Rattle.cascade_theory.specs.Cascade.{cascade}
 use Rattle.layout.specs.Layout.{cascadeAt, cascadeNumbers, cascadeCounts, cascadeFits}
-use Rattle.taps.specs.Fir.{TapsRecord, fir}
-use Rattle.taps.specs.Lent.{capacity, lentTaps, fits}
+use Rattle.fir_theory.specs.Fir.{TapsRecord, fir}
+use Rattle.fir_theory.specs.Lent.{capacity, lentTaps, fits}
 
 -- ---- a tap record: taps, samples and 3 counts, which are the length, the held count and the window code
 

@@ -1,7 +1,7 @@
 // The designs of both kinds, and ready-made taps, into slices.
 ghost use mathlib.Core.Path.{_≡_};
-ghost use Rattle.taps.specs.Fir.{fromCoeffs};
-ghost use Rattle.taps.specs.Lent.{capacity};
+ghost use Rattle.fir_theory.specs.Fir.{fromCoeffs};
+ghost use Rattle.fir_theory.specs.Lent.{capacity};
 ghost use Rattle.designs.specs.LowPass.{butterworthLp, butterworthHp, chebyshev1Lp, chebyshev2Lp};
 ghost use Rattle.designs.specs.BandPass.{butterworthBp};
 ghost use Rattle.calls.specs.Calls.{designCall, madeCall, firCall};

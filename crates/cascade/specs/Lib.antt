@@ -1,4 +1,2 @@
 -- 01 "Cascade". Cascade and Skewed are over any float format; View reads the code's types at f64 as its records.
-pub mod Cascade
-pub mod Skewed
 pub mod View

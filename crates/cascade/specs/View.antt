@@ -4,7 +4,7 @@ use lib.Ieee.{Float, binary64}
 use Rattle.runs.specs.Runs.{Step, Reset, Block, Fresh}
 use Rattle.runs.specs.View.{answerView}
 use Rattle.sections.specs.View.{sectionView, firstView}
-use Rattle.cascade.specs.Cascade.{CascadeRecord, cascade}
+use Rattle.cascade_theory.specs.Cascade.{CascadeRecord, cascade}
 use Rattle.cascade.specs.declared.Cascade.{Cascade}
 use Rattle.cascade.specs.declared.Updated.{Updated}
 use Rattle.cascade.specs.declared.WasReset.{WasReset}

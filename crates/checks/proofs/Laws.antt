@@ -8,7 +8,7 @@ use lib.IntN.{pos}
 use lib.Ieee.{Float, binary64, inFloat}
 use Rattle.runs.specs.Refusals.{InvalidOrder, orderRefused}
 use Rattle.runs.proofs.Laws.{good-order}
-use Rattle.taps.specs.Lent.{capacity}
+use Rattle.fir_theory.specs.Lent.{capacity}
 use Rattle.checks.specs.Checks.{validateParams, validateChebyshev, validateBand, validateFir}
 
 -- parameters that pass have a good order: it is tested first, whatever is tested after it

@@ -6,7 +6,7 @@ use lib.Ieee.{Float, isNan, le}
 use Rattle.scalar.specs.Operators.{_⊗_}
 use Rattle.scalar.specs.Constants.{half, plusZero}
 use Rattle.runs.specs.Refusals.{Accepted, InvalidOrder, InvalidFrequency, InvalidSampleRate, InvalidRipple, orderRefused}
-use Rattle.taps.specs.Lent.{capacity}
+use Rattle.fir_theory.specs.Lent.{capacity}
 
 -- NaN or at most 0
 unfoldable pub notPositive : Float → Bool

@@ -2,13 +2,13 @@
 use mathlib.Core.List.{List}
 use lib.Ieee.{binary64}
 use Rattle.runs.specs.Forgetting.{Call, run}
-use Rattle.plain.specs.Cascade.{CascadeForgets}
-use Rattle.cascade.specs.Cascade.{cascade}
+use Rattle.cascade_theory.specs.Plain.{CascadeForgets}
+use Rattle.cascade_theory.specs.Cascade.{cascade}
 use Rattle.cascade.specs.View.{cascadeView}
 use Rattle.cascade.specs.declared.Cascade.{Cascade}
-use Rattle.plain.specs.Fir.{FirForgets}
-use Rattle.taps.specs.Fir.{fir}
-use Rattle.taps.specs.Lent.{capacity}
+use Rattle.fir_theory.specs.Plain.{FirForgets}
+use Rattle.fir_theory.specs.Fir.{fir}
+use Rattle.fir_theory.specs.Lent.{capacity}
 use Rattle.fir.specs.View.{tapsView}
 use Rattle.fir.specs.declared.TapRecord.{TapRecord}
 

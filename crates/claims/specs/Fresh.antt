@@ -5,17 +5,17 @@ use mathlib.Core.List.{List}
 use Prim.Native.Nat.{ℕ}
 use lib.Ieee.{Float, binary64}
 use Rattle.runs.specs.Runs.{reset}
-use Rattle.cascade.specs.Cascade.{CascadeRecord, cascade}
+use Rattle.cascade_theory.specs.Cascade.{CascadeRecord, cascade}
 use Rattle.cascade.specs.View.{FreshCascade}
-use Rattle.taps.specs.Fir.{TapsRecord, fir, fromCoeffs}
-use Rattle.taps.specs.Lent.{capacity}
+use Rattle.fir_theory.specs.Fir.{TapsRecord, fir, fromCoeffs}
+use Rattle.fir_theory.specs.Lent.{capacity}
 use Rattle.fir.specs.View.{FreshTaps}
 use Rattle.designs.specs.LowPass.{butterworthLp, butterworthHp, chebyshev1Lp, chebyshev2Lp}
 use Rattle.designs.specs.BandPass.{butterworthBp}
 use Rattle.windows.specs.Fir.{firLp}
 use Rattle.windows.specs.declared.WindowType.{WindowType}
 use Rattle.runs.specs.Refusals.{Accepted}
-use Rattle.taps.specs.Fir.{Made}
+use Rattle.fir_theory.specs.Fir.{Made}
 use Rattle.designs.specs.Design.{DesignRecord}
 use Rattle.layout.specs.Layout.{cascadeAt, cascadeFits}
 use Rattle.calls.specs.Kinds.{tapsAt, tapsFit}

@@ -7,22 +7,22 @@ use lib.Ieee.{Float, binary64}
 use Rattle.runs.specs.Runs as Runs
 use Rattle.runs.specs.View.{answerView}
 use Rattle.runs.specs.Forgetting.{Call, step, block, reset, Outcome, stepped, blocked, wasReset, run}
-use Rattle.cascade.specs.Cascade.{cascade}
+use Rattle.cascade_theory.specs.Cascade.{cascade}
 use Rattle.cascade.specs.View.{cascadeView, updatedView, resetView, blockView}
 use Rattle.cascade.specs.declared.Cascade.{Cascade}
 use Rattle.cascade.specs.declared.Updated.{Updated}
 use Rattle.cascade.specs.declared.WasReset.{WasReset}
 use Rattle.cascade.specs.declared.Blocked.{Blocked}
-use Rattle.taps.specs.Fir.{fir}
-use Rattle.taps.specs.Lent.{capacity}
+use Rattle.fir_theory.specs.Fir.{fir}
+use Rattle.fir_theory.specs.Lent.{capacity}
 use Rattle.fir.specs.View.{tapsView}
 use Rattle.fir.specs.View as FirView
 use Rattle.fir.specs.declared.TapRecord.{TapRecord}
 use Rattle.fir.specs.declared.Updated.{Updated as FirUpdated}
 use Rattle.fir.specs.declared.WasReset.{WasReset as FirWasReset}
 use Rattle.fir.specs.declared.Blocked.{Blocked as FirBlocked}
-use Rattle.plain.specs.Cascade.{CascadeForgets}
-use Rattle.plain.specs.Fir.{FirForgets}
+use Rattle.cascade_theory.specs.Plain.{CascadeForgets}
+use Rattle.fir_theory.specs.Plain.{FirForgets}
 use Rattle.layout.specs.Layout.{cascadeAt}
 use Rattle.calls.specs.Kinds.{tapsAt, cascadeKind, firKind}
 use Rattle.calls.specs.Lists.{CCalls}

@@ -7,11 +7,11 @@ use lib.Ieee.{Float, nan, binary64, neg, toBits}
 use Rattle.scalar.specs.Operators.{_⊘_, nat}
 use Rattle.ieee.specs.Sqrt.{sqrtOf}
 use Rattle.runs.specs.Runs.{Answer, clear, clouded, refused, Block, step, block}
-use Rattle.sections.specs.Section.{Biquad, sectionOut, sectionNext}
-use Rattle.sections.specs.FirstOrder.{FirstPart, firstOut, firstNext}
+use Rattle.cascade_theory.specs.Section.{Biquad, sectionOut, sectionNext}
+use Rattle.cascade_theory.specs.FirstOrder.{FirstPart, firstOut, firstNext}
 use Rattle.poles.specs.Butterworth.{lpBiquad, hpBiquad, lpFirst, hpFirst}
-use Rattle.taps.specs.Fir.{TapsRecord, fir, fromCoeffs}
-use Rattle.taps.specs.Lent.{capacity}
+use Rattle.fir_theory.specs.Fir.{TapsRecord, fir, fromCoeffs}
+use Rattle.fir_theory.specs.Lent.{capacity}
 use Rattle.designs.specs.LowPass.{butterworthLp}
 use Rattle.designs.specs.BandPass.{butterworthBp}
 use Rattle.windows.specs.Fir.{firLp}

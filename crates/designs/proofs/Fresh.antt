@@ -7,9 +7,9 @@ use native.Mathlib.Omega.{arith}
 use lib.Dec.{ltb, eqb}
 use lib.Ieee.{Float, le}
 use borrow.Author.Tests.{le-leb, lt-ltb, ltb-false, eq-eqb, eqb-true, eqb-false}
-use Rattle.sections.specs.Section.{Biquad, clearedBiquad}
-use Rattle.sections.specs.FirstOrder.{blankFirst, clearedFirst}
-use Rattle.cascade.specs.Cascade.{CascadeRecord, checkCascade, clearedCascade}
+use Rattle.cascade_theory.specs.Section.{Biquad, clearedBiquad}
+use Rattle.cascade_theory.specs.FirstOrder.{blankFirst, clearedFirst}
+use Rattle.cascade_theory.specs.Cascade.{CascadeRecord, checkCascade, clearedCascade}
 use Rattle.cascade.specs.View.{FreshCascade}
 use Rattle.scalar.specs.Operators.{_⊖_, _⊗_}
 use Rattle.scalar.specs.Constants.{plusZero, half}

@@ -2,7 +2,7 @@
 use mathlib.Core.Path.{_≡_}
 use Prim.Native.Nat.{ℕ}
 use borrow.Author.Tests.{eq-eqb, ne-eqb}
-use Rattle.cascade.specs.Cascade.{CascadeRecord}
+use Rattle.cascade_theory.specs.Cascade.{CascadeRecord}
 use Rattle.designs.specs.Design.{refusedDesign, accepted, unlessRefused}
 
 -- v is what its checks drew

@@ -6,8 +6,8 @@ use native.Mathlib.Numerals.{add-one}
 use native.Mathlib.Omega.{arith}
 use lib.ListN.{length, set, length-append}
 use lib.Ieee.{Float}
-use Rattle.sections.specs.Section.{Biquad, blankBiquad}
-use Rattle.parts.proofs.Loops.{map-set}
+use Rattle.cascade_theory.specs.Section.{Biquad, blankBiquad}
+use Rattle.cascade_theory.proofs.Loops.{map-set}
 use Rattle.checks.specs.Lists.{upTo}
 use Rattle.checks.proofs.Lists.{upTo-length}
 use Rattle.designs.specs.Design.{padded}

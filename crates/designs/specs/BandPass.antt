@@ -6,9 +6,9 @@ use lib.Dec.{eqb}
 use lib.Ieee.{Float}
 use Rattle.scalar.specs.Operators.{_⊖_, _⊗_}
 use Rattle.elementary.specs.Trigonometric.{sinOf, cosOf}
-use Rattle.sections.specs.Section.{Biquad}
-use Rattle.sections.specs.FirstOrder.{blankFirst}
-use Rattle.cascade.specs.Cascade.{CascadeRecord}
+use Rattle.cascade_theory.specs.Section.{Biquad}
+use Rattle.cascade_theory.specs.FirstOrder.{blankFirst}
+use Rattle.cascade_theory.specs.Cascade.{CascadeRecord}
 use Rattle.bandpass.specs.BandPass.{BiquadPair, bpPair, bpReal}
 use Rattle.checks.specs.Checks.{validateBand}
 use Rattle.designs.specs.Design.{DesignRecord, unlessRefused, padded}

@@ -4,7 +4,7 @@ use lib.Ieee.{Float}
 use Rattle.scalar.specs.Operators.{_⊗_, _⊘_, nat}
 use Rattle.scalar.specs.Constants.{pi}
 use Rattle.elementary.specs.Trigonometric.{sinOf, cosOf, tanOf}
-use Rattle.sections.specs.Section.{Biquad}
+use Rattle.cascade_theory.specs.Section.{Biquad}
 use Rattle.poles.specs.Butterworth.{lpBiquad, hpBiquad}
 
 -- k = tan((PI × cutoff)/rate)

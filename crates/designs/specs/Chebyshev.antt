@@ -8,7 +8,7 @@ use Rattle.scalar.specs.Sign.{absOf}
 use Rattle.elementary.specs.Trigonometric.{sinOf, cosOf}
 use Rattle.elementary.specs.Exponential.{pow10Of}
 use Rattle.hyperbolic.specs.Hyperbolic.{sinhOf, coshOf, arcsinhOf}
-use Rattle.sections.specs.Section.{Biquad}
+use Rattle.cascade_theory.specs.Section.{Biquad}
 use Rattle.poles.specs.Chebyshev.{cheb1Biquad, cheb2Biquad}
 use Rattle.designs.specs.declared.prototype.Prototype.{Prototype}
 use Rattle.designs.specs.declared.prototype.Prototype.the-variants.{ChebyshevI, ChebyshevII}

@@ -4,8 +4,8 @@ use mathlib.Core.Bool.{cond}
 use mathlib.Core.List.{List, [], _∷_}
 use lib.Dec.{eqb}
 use Rattle.runs.specs.Refusals.{Accepted}
-use Rattle.sections.specs.Section.{Biquad, blankBiquad}
-use Rattle.cascade.specs.Cascade.{CascadeRecord, blankCascade}
+use Rattle.cascade_theory.specs.Section.{Biquad, blankBiquad}
+use Rattle.cascade_theory.specs.Cascade.{CascadeRecord, blankCascade}
 
 pub record DesignRecord : Type 0 where
   pub refusal : ℕ

@@ -5,9 +5,9 @@ use lib.Dec.{eqb}
 use lib.Ieee.{neg}
 use Rattle.scalar.specs.Operators.{_⊘_}
 use Rattle.scalar.specs.Constants.{one}
-use Rattle.sections.specs.Section.{Biquad}
-use Rattle.sections.specs.FirstOrder.{FirstPart, blankFirst}
-use Rattle.cascade.specs.Cascade.{CascadeRecord}
+use Rattle.cascade_theory.specs.Section.{Biquad}
+use Rattle.cascade_theory.specs.FirstOrder.{FirstPart, blankFirst}
+use Rattle.cascade_theory.specs.Cascade.{CascadeRecord}
 use Rattle.checks.specs.Lists.{upTo}
 use Rattle.designs.specs.Design.{padded}
 use Rattle.poles.specs.Butterworth.{lpFirst, hpFirst}

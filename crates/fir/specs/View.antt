@@ -3,8 +3,8 @@ use mathlib.Core.List.{List}
 use lib.Ieee.{Float, binary64}
 use Rattle.runs.specs.Runs.{Step, Reset, Block, Fresh}
 use Rattle.runs.specs.View.{answerView}
-use Rattle.taps.specs.Fir.{TapsRecord, fir, Made as MadeRecord}
-use Rattle.taps.specs.Lent.{capacity}
+use Rattle.fir_theory.specs.Fir.{TapsRecord, fir, Made as MadeRecord}
+use Rattle.fir_theory.specs.Lent.{capacity}
 use Rattle.fir.specs.declared.TapRecord.{TapRecord}
 use Rattle.fir.specs.declared.Updated.{Updated}
 use Rattle.fir.specs.declared.WasReset.{WasReset}

@@ -3,8 +3,8 @@
 ghost use mathlib.Core.Path.{_≡_};
 ghost use lib.Ieee.{binary64};
 ghost use Rattle.runs.specs.Runs.{step, reset, block};
-ghost use Rattle.taps.specs.Fir.{zeros, blankTaps, fir, fromCoeffs};
-ghost use Rattle.taps.specs.Lent.{capacity};
+ghost use Rattle.fir_theory.specs.Fir.{zeros, blankTaps, fir, fromCoeffs};
+ghost use Rattle.fir_theory.specs.Lent.{capacity};
 ghost use Rattle.fir.specs.View.{tapsView, updatedView, resetView, blockView, madeView};
 use runs::Answer;
 

@@ -8,8 +8,8 @@ use native.Mathlib.Omega.{arith}
 use lib.ListN.{length, getD, set, drop, drop-of-length-le, length-append, length-drop}
 use lib.Seq.{take-at}
 use lib.Ieee.{Float}
-use Rattle.convolution.specs.Convolution.{spliced}
-use Rattle.convolution.proofs.Sums.{put-start, put-turn, put-done, spliced-more}
+use Rattle.fir_theory.specs.Convolution.{spliced}
+use Rattle.fir_theory.proofs.Sums.{put-start, put-turn, put-done, spliced-more}
 use Rattle.sections.specs.View.{sectionView}
 use Rattle.sections.specs.declared.section.Section.{Section}
 use Rattle.layout.specs.Layout.{sectionNumbers, sectionsNumbers}

@@ -5,9 +5,9 @@ use mathlib.Core.List.{List, [], _∷_, _++_}
 use lib.Dec.{eqb, leb}
 use lib.ListN.{length, getD}
 use lib.Ieee.{Float, nan}
-use Rattle.sections.specs.Section.{Biquad}
-use Rattle.sections.specs.FirstOrder.{FirstPart}
-use Rattle.cascade.specs.Cascade.{CascadeRecord}
+use Rattle.cascade_theory.specs.Section.{Biquad}
+use Rattle.cascade_theory.specs.FirstOrder.{FirstPart}
+use Rattle.cascade_theory.specs.Cascade.{CascadeRecord}
 
 -- a section's seven numbers, from place k on
 abbrev pub sectionAt : List Float → ℕ → Biquad

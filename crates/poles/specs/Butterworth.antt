@@ -2,8 +2,8 @@
 use lib.Ieee.{Float, neg}
 use Rattle.scalar.specs.Operators.{_⊕_, _⊖_, _⊗_, _⊘_}
 use Rattle.scalar.specs.Constants.{one, two}
-use Rattle.sections.specs.Section.{Biquad, newBiquad}
-use Rattle.sections.specs.FirstOrder.{FirstPart, newFirst}
+use Rattle.cascade_theory.specs.Section.{Biquad, newBiquad}
+use Rattle.cascade_theory.specs.FirstOrder.{FirstPart, newFirst}
 
 -- ---- a pole pair σ ± jω
 -- the denominator: a0, and a1 and a2 divided by it

@@ -3,8 +3,8 @@ use lib.Ieee.{Float, neg}
 use Rattle.scalar.specs.Operators.{_⊕_, _⊖_, _⊗_, _⊘_}
 use Rattle.scalar.specs.Constants.{one, two}
 use Rattle.scalar.specs.Sign.{maxZeroOf}
-use Rattle.sections.specs.Section.{Biquad, newBiquad}
-use Rattle.sections.specs.FirstOrder.{FirstPart, newFirst}
+use Rattle.cascade_theory.specs.Section.{Biquad, newBiquad}
+use Rattle.cascade_theory.specs.FirstOrder.{FirstPart, newFirst}
 use Rattle.poles.specs.Butterworth.{denominatorOf}
 
 -- type I, the pole pair σ ± jω

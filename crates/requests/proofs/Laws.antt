@@ -4,8 +4,8 @@ use mathlib.Core.Bool.{Bool, true, false, cond}
 use Prim.Native.Nat.{ℕ}
 use lib.Dec.{eqb}
 use borrow.Author.Tests.{eqb-true}
-use Rattle.cascade.specs.Cascade.{CascadeRecord}
-use Rattle.taps.specs.Fir.{Made}
+use Rattle.cascade_theory.specs.Cascade.{CascadeRecord}
+use Rattle.fir_theory.specs.Fir.{Made}
 use Rattle.checks.specs.Checks.{validateParams, validateChebyshev, validateBand, validateFir}
 use Rattle.designs.specs.Design.{DesignRecord, accepted, refusedDesign, unlessRefused}
 use Rattle.designs.specs.LowPass.{butterworthLp, butterworthHp, chebyshev1Lp, chebyshev2Lp}

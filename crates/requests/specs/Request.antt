@@ -1,8 +1,8 @@
 -- 01's design request: its check, and the design of each kind. Definitions only.
 use Prim.Native.Nat.{ℕ}
-use Rattle.cascade.specs.Cascade.{CascadeRecord, blankCascade}
-use Rattle.taps.specs.Fir.{TapsRecord, Made, blankTaps}
-use Rattle.taps.specs.Lent.{capacity}
+use Rattle.cascade_theory.specs.Cascade.{CascadeRecord, blankCascade}
+use Rattle.fir_theory.specs.Fir.{TapsRecord, Made, blankTaps}
+use Rattle.fir_theory.specs.Lent.{capacity}
 use Rattle.checks.specs.Checks.{validateParams, validateChebyshev, validateBand, validateFir}
 use Rattle.windows.specs.Fir.{firLp}
 use Rattle.designs.specs.Design.{DesignRecord}

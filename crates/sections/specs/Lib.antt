@@ -1,4 +1,2 @@
 -- 01 "Section". Section and FirstOrder are over any float format; View reads the code's types at f64 as their records.
-pub mod Section
-pub mod FirstOrder
 pub mod View

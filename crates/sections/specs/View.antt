@@ -1,6 +1,6 @@
 -- The code's types at f64, read field by field as the records of these definitions. Definitions only.
-use Rattle.sections.specs.Section.{Biquad}
-use Rattle.sections.specs.FirstOrder.{FirstPart}
+use Rattle.cascade_theory.specs.Section.{Biquad}
+use Rattle.cascade_theory.specs.FirstOrder.{FirstPart}
 use Rattle.sections.specs.declared.section.Section.{Section}
 use Rattle.sections.specs.declared.first_order.FirstOrder.{FirstOrder}
 

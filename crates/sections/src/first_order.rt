@@ -1,7 +1,7 @@
 // A first-order part: 000's ButterworthFirstOrder and 001's ChebFirstOrder, which are the same.
 ghost use mathlib.Core.Path.{_≡_};
 ghost use lib.Ieee.{binary64};
-ghost use Rattle.sections.specs.FirstOrder.{newFirst, identityFirst, blankFirst, clearedFirst, firstOut, firstNext};
+ghost use Rattle.cascade_theory.specs.FirstOrder.{newFirst, identityFirst, blankFirst, clearedFirst, firstOut, firstNext};
 ghost use Rattle.sections.specs.View.{firstView};
 
 // Coefficients and one carried value.

@@ -1,7 +1,7 @@
 // A second-order section in transposed direct form II: 000's ButterworthBiquad and 001's ChebBiquad, which are the same.
 ghost use mathlib.Core.Path.{_≡_};
 ghost use lib.Ieee.{binary64};
-ghost use Rattle.sections.specs.Section.{newBiquad, identityBiquad, blankBiquad, clearedBiquad, sectionOut, sectionNext};
+ghost use Rattle.cascade_theory.specs.Section.{newBiquad, identityBiquad, blankBiquad, clearedBiquad, sectionOut, sectionNext};
 ghost use Rattle.sections.specs.View.{sectionView};
 
 // Coefficients and two carried values.

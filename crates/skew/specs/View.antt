@@ -2,7 +2,7 @@
 use mathlib.Core.List.{List}
 use lib.Ieee.{Float}
 use Rattle.sections.specs.View.{sectionView}
-use Rattle.skew.specs.Skew.{FourRecord, LineRecord, DrainedRecord, RanRecord}
+use Rattle.cascade_theory.specs.Skew.{FourRecord, LineRecord, DrainedRecord, RanRecord}
 use Rattle.skew.specs.declared.Four.{Four}
 use Rattle.skew.specs.declared.Line.{Line}
 use Rattle.skew.specs.declared.Drained.{Drained}

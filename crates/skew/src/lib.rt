@@ -5,7 +5,7 @@ ghost use mathlib.Core.Bool.{cond};
 ghost use lib.Ieee.{binary64};
 ghost use lib.Ieee.Scale.{finite};
 ghost use Rattle.runs.specs.Runs.{notAllFinite};
-ghost use Rattle.skew.specs.Skew.{filled, lineOut, advanced, drained, ran};
+ghost use Rattle.cascade_theory.specs.Skew.{filled, lineOut, advanced, drained, ran};
 ghost use Rattle.skew.specs.View.{fourView, lineView, drainedView, ranView};
 use sections::Section;
 

@@ -7,9 +7,9 @@ use lib.ListN.{length}
 use lib.Ieee.{Float, binary64}
 use Rattle.runs.specs.Refusals.{Accepted, ShortOutput}
 use Rattle.runs.specs.Runs.{Filter, answers, written}
-use Rattle.cascade.specs.Cascade.{cascade}
-use Rattle.taps.specs.Fir.{fir, fromCoeffs}
-use Rattle.taps.specs.Lent.{capacity}
+use Rattle.cascade_theory.specs.Cascade.{cascade}
+use Rattle.fir_theory.specs.Fir.{fir, fromCoeffs}
+use Rattle.fir_theory.specs.Lent.{capacity}
 use Rattle.designs.specs.LowPass.{butterworthLp}
 
 pub record Stepped : Type 0 where

@@ -8,8 +8,8 @@ ghost use lib.Ieee.{binary64};
 ghost use Rattle.runs.specs.Runs.{plusZero, notAllFinite};
 ghost use Rattle.runs.specs.Lent.{lentRefusal, lentStep, lentReset};
 ghost use Rattle.runs.specs.View.{answerView};
-ghost use Rattle.taps.specs.Fir.{pushed, sum, clouding, checkTaps, fir};
-ghost use Rattle.taps.specs.Lent.{capacity, lentTaps, fits};
+ghost use Rattle.fir_theory.specs.Fir.{pushed, sum, clouding, checkTaps, fir};
+ghost use Rattle.fir_theory.specs.Lent.{capacity, lentTaps, fits};
 use runs::Answer;
 
 // How many taps and samples a record has places for.

@@ -6,10 +6,10 @@ use native.Mathlib.Omega.{arith}
 use lib.Dec.{eqb}
 use lib.Ieee.{Float, binary64}
 use borrow.Author.Tests.{eqb-true, eqb-false}
-use Rattle.taps.specs.Fir.{Made, blankTaps, holding}
-use Rattle.taps.specs.Lent.{capacity}
+use Rattle.fir_theory.specs.Fir.{Made, blankTaps, holding}
+use Rattle.fir_theory.specs.Lent.{capacity}
 use Rattle.fir.specs.View.{FreshTaps}
-use Rattle.taps.proofs.Fresh.{holding-fresh}
+use Rattle.fir_theory.proofs.Fresh.{holding-fresh}
 use Rattle.checks.specs.Checks.{validateFir}
 use Rattle.checks.proofs.Laws.{good-fir}
 use Rattle.windows.specs.Fir.{codeOf, firTaps, firLp}

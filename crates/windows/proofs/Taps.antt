@@ -19,8 +19,8 @@ use Rattle.windows.specs.declared.WindowType.{WindowType}
 use borrow.Author.Tests.{eq-eqb, ne-eqb}
 use lib.Ieee.{ofBits}
 use Rattle.runs.specs.Refusals.{Accepted}
-use Rattle.taps.specs.Fir.{TapsRecord, Made, zeros, blankTaps, holding}
-use Rattle.taps.specs.Lent.{capacity}
+use Rattle.fir_theory.specs.Fir.{TapsRecord, Made, zeros, blankTaps, holding}
+use Rattle.fir_theory.specs.Lent.{capacity}
 
 -- ---- the loop that makes the taps: the first i are in place
 abbrev pub Making : (ℕ → Float) → ℕ → List Float → ℕ → Type 0

@@ -9,8 +9,8 @@ use Rattle.scalar.specs.Constants.{plusZero, one, two, half, pi, epsilon}
 use Rattle.scalar.specs.Sign.{absOf}
 use Rattle.elementary.specs.Trigonometric.{sinOf, cosOf}
 use Rattle.runs.specs.Refusals.{Accepted}
-use Rattle.taps.specs.Fir.{Rectangular, Hamming, Hanning, Blackman, Made, blankTaps, holding}
-use Rattle.taps.specs.Lent.{capacity}
+use Rattle.fir_theory.specs.Fir.{Rectangular, Hamming, Hanning, Blackman, Made, blankTaps, holding}
+use Rattle.fir_theory.specs.Lent.{capacity}
 use Rattle.checks.specs.Checks.{validateFir}
 use Rattle.checks.specs.Lists.{upTo}
 use Rattle.windows.specs.declared.WindowType.{WindowType}

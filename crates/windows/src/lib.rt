@@ -5,7 +5,7 @@ ghost use Prim.Native.Nat.{_<_, _≤_, _-_};
 ghost use lib.ListN.{length, take, drop, replicate};
 ghost use Rattle.scalar.specs.Operators.{_⊘_};
 ghost use Rattle.scalar.specs.Constants.{plusZero};
-ghost use Rattle.taps.specs.Lent.{capacity};
+ghost use Rattle.fir_theory.specs.Lent.{capacity};
 ghost use Rattle.fir.specs.View.{madeView};
 ghost use Rattle.checks.specs.Lists.{upTo};
 ghost use Rattle.windows.specs.Fir.{codeOf, weightOf, sincOf, tapOf, totalFrom, normalisedBy, firLp};

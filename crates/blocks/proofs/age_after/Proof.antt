@@ -1,4 +1,4 @@
-use Rattle.blocks.proofs.Copies.{age-none, age-more, age-most}
+use Rattle.fir_theory.proofs.Copies.{age-none, age-more, age-most}
 -- `blocks::age_after` meets its contract. Assumes nothing.
 use mathlib.Core.Path.{sym, _∙_}
 use borrow.Author.Tests.{not-true, not-false}

@@ -11,11 +11,11 @@ use lib.Ieee.{Float, binary64}
 use Rattle.runs.specs.Runs.{block}
 use Rattle.runs.proofs.Laws.{block-short}
 use Rattle.runs.proofs.Lent.{lent-good, lent-block, lent-block-refused}
-use Rattle.taps.specs.Fir.{TapsRecord, checkTaps, fir}
-use Rattle.taps.specs.Lent.{capacity, lentTaps, fits}
-use Rattle.taps.proofs.Laws.{sizes, fits-lengths}
-use Rattle.blocks.specs.Blocks.{ranBlock}
-use Rattle.blocks.proofs.Long.{front-full, parts-join}
+use Rattle.fir_theory.specs.Fir.{TapsRecord, checkTaps, fir}
+use Rattle.fir_theory.specs.Lent.{capacity, lentTaps, fits}
+use Rattle.fir_theory.proofs.Laws.{sizes, fits-lengths}
+use Rattle.fir_theory.specs.Blocks.{ranBlock}
+use Rattle.fir_theory.proofs.Long.{front-full, parts-join}
 use borrow.Author.Needs.{needs}
 use Rattle.blocks.proofs.block.Statement.{statement}
 use Rattle.blocks.proofs.block.Tie as tie

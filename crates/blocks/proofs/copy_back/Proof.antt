@@ -2,7 +2,7 @@ use borrow.Author.Needs.{needs}
 -- `blocks::copy_back` meets its contract. Assumes nothing.
 use Prim.Native.Nat.{_-_}
 use native.Mathlib.Omega.{arith}
-use Rattle.blocks.proofs.Copies.{Backing, back-start, back-turn, back-done}
+use Rattle.fir_theory.proofs.Copies.{Backing, back-start, back-turn, back-done}
 use Rattle.blocks.proofs.copy_back.Statement.{statement}
 use Rattle.blocks.proofs.copy_back.Tie as tie
 

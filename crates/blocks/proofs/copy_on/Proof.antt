@@ -1,10 +1,10 @@
-use Rattle.blocks.proofs.Copies.{on-turn, on-done}
+use Rattle.fir_theory.proofs.Copies.{on-turn, on-done}
 use borrow.Author.Needs.{needs}
 -- `blocks::copy_on` meets its contract. Assumes nothing.
 use Prim.Native.Nat.{_-_}
 use native.Mathlib.Omega.{arith}
 use lib.ListN.{take, drop}
-use Rattle.convolution.proofs.Sums.{Putting, put-start}
+use Rattle.fir_theory.proofs.Sums.{Putting, put-start}
 use Rattle.blocks.proofs.copy_on.Statement.{statement}
 use Rattle.blocks.proofs.copy_on.Tie as tie
 

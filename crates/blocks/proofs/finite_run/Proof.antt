@@ -4,7 +4,7 @@ use Prim.Native.Nat.{_-_}
 use mathlib.Core.Path.{sym, _∙_}
 use native.Mathlib.Omega.{arith}
 use borrow.Author.Tests.{not-true, not-false}
-use Rattle.blocks.proofs.Copies.{Finite, finite-start, finite-turn, finite-found, finite-done}
+use Rattle.fir_theory.proofs.Copies.{Finite, finite-start, finite-turn, finite-found, finite-done}
 use Rattle.blocks.proofs.finite_run.Statement.{statement}
 use Rattle.blocks.proofs.finite_run.Tie as tie
 

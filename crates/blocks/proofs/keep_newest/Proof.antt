@@ -1,6 +1,6 @@
 -- `blocks::keep_newest` meets its contract. Assumes nothing.
 use native.Mathlib.Omega.{arith}
-use Rattle.blocks.proofs.Window.{newest-window, newest-input}
+use Rattle.fir_theory.proofs.Window.{newest-window, newest-input}
 use borrow.Author.Needs.{needs}
 use Rattle.blocks.proofs.keep_newest.Statement.{statement}
 use Rattle.blocks.proofs.keep_newest.Tie as tie

@@ -5,8 +5,8 @@ use mathlib.Core.Logic.{⊎-elim}
 use native.Mathlib.Omega.{arith}
 use lib.ListN.{length}
 use lib.Ieee.{binary64}
-use Rattle.taps.specs.Lent.{capacity, lentTaps}
-use Rattle.blocks.proofs.Long.{count-long, after-long, output-long}
+use Rattle.fir_theory.specs.Lent.{capacity, lentTaps}
+use Rattle.fir_theory.proofs.Long.{count-long, after-long, output-long}
 use borrow.Author.Needs.{needs}
 use Rattle.blocks.proofs.pass_all.Statement.{statement}
 use Rattle.blocks.proofs.pass_all.Tie as tie

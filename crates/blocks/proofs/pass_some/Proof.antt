@@ -10,9 +10,9 @@ use lib.Ieee.{nan, binary64}
 use borrow.Author.Needs.{needs}
 use Rattle.runs.proofs.Laws.{Running, run-start, run-turn, run-done, step-parts}
 use Rattle.runs.proofs.Lent.{lent-step}
-use Rattle.taps.specs.Fir.{fir}
-use Rattle.taps.specs.Lent.{capacity, lentTaps, fits}
-use Rattle.taps.proofs.Laws.{check-next, fits-lengths, fits-next}
+use Rattle.fir_theory.specs.Fir.{fir}
+use Rattle.fir_theory.specs.Lent.{capacity, lentTaps, fits}
+use Rattle.fir_theory.proofs.Laws.{check-next, fits-lengths, fits-next}
 use Rattle.blocks.proofs.pass_some.Statement.{statement}
 use Rattle.blocks.proofs.pass_some.Tie as tie
 

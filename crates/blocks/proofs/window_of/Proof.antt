@@ -1,7 +1,7 @@
 -- `blocks::window_of` meets its contract. Assumes nothing.
 use mathlib.Core.Path.{sym}
 use native.Mathlib.Omega.{arith}
-use Rattle.blocks.proofs.Window.{window-is}
+use Rattle.fir_theory.proofs.Window.{window-is}
 use borrow.Author.Needs.{needs}
 use Rattle.blocks.proofs.window_of.Statement.{statement}
 use Rattle.blocks.proofs.window_of.Tie as tie

@@ -3,7 +3,7 @@ use mathlib.Core.Path.{_≡_}
 use native.Mathlib.Omega.{arith}
 use lib.ListN.{length}
 use Rattle.sections.specs.View.{sectionView}
-use Rattle.parts.proofs.Turns.{four-places}
+use Rattle.cascade_theory.proofs.Turns.{four-places}
 use borrow.Author.Needs.{needs}
 use Rattle.cascade.proofs.by_name.Statement.{statement}
 use Rattle.cascade.proofs.by_name.Tie as tie

@@ -1,5 +1,5 @@
 -- `cascade::clouds` meets its contract. Assumes nothing.
-use Rattle.cascade.specs.Cascade.{clouding}
+use Rattle.cascade_theory.specs.Cascade.{clouding}
 use borrow.Author.Needs.{needs}
 use Rattle.cascade.proofs.clouds.Statement.{statement}
 use Rattle.cascade.proofs.clouds.Tie as tie

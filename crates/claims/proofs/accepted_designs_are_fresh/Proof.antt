@@ -1,8 +1,8 @@
 -- `claims::accepted_designs_are_fresh` meets its contract. Assumes nothing.
-use Rattle.taps.specs.Lent.{capacity}
+use Rattle.fir_theory.specs.Lent.{capacity}
 use lib.Ieee.{binary64}
-use Rattle.plain.proofs.Cascade as cascade
-use Rattle.taps.proofs.Fresh as fir
+use Rattle.cascade_theory.proofs.Forgetting as cascade
+use Rattle.fir_theory.proofs.Fresh as fir
 use Rattle.designs.proofs.Fresh.{butterworth-lp-fresh, butterworth-hp-fresh, chebyshev1-fresh, chebyshev2-fresh, bandpass-fresh}
 use Rattle.windows.proofs.Fresh.{fir-fresh}
 use Rattle.claims.proofs.accepted_designs_are_fresh.Statement.{statement}

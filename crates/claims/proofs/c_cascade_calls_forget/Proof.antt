@@ -1,9 +1,9 @@
 -- `claims::c_cascade_calls_forget` meets its contract.
 use lib.Ieee.{binary64}
 use Rattle.runs.proofs.Forgetting.{forgets-shown}
-use Rattle.cascade.specs.Cascade.{cascade}
-use Rattle.plain.specs.Cascade.{plainCascade, coefficientsOf}
-use Rattle.plain.proofs.Cascade.{forgets}
+use Rattle.cascade_theory.specs.Cascade.{cascade}
+use Rattle.cascade_theory.specs.Plain.{plainCascade, coefficientsOf}
+use Rattle.cascade_theory.proofs.Forgetting.{forgets}
 use Rattle.layout.specs.Layout.{cascadeAt}
 use Rattle.calls.specs.Kinds.{cascadeKind}
 use Rattle.calls.proofs.Lists.{c-calls-run}

@@ -6,11 +6,11 @@ use Prim.Native.Nat.{ℕ}
 use lib.Ieee.{Float, binary64}
 use Rattle.runs.specs.Forgetting.{Call, Outcome, plainRun, seen}
 use Rattle.runs.proofs.Forgetting.{forgets-shown}
-use Rattle.taps.specs.Fir.{TapsRecord, fir}
-use Rattle.taps.specs.Lent.{capacity}
-use Rattle.taps.proofs.Laws.{fits-lengths}
-use Rattle.plain.specs.Fir.{plainFir, tapsOf, FirForgets}
-use Rattle.plain.proofs.Fir.{forgets}
+use Rattle.fir_theory.specs.Fir.{TapsRecord, fir}
+use Rattle.fir_theory.specs.Lent.{capacity}
+use Rattle.fir_theory.proofs.Laws.{fits-lengths}
+use Rattle.fir_theory.specs.Plain.{plainFir, tapsOf, FirForgets}
+use Rattle.fir_theory.proofs.Forgetting.{forgets}
 use Rattle.calls.specs.Kinds.{tapsAt, tapsFit, firKind}
 use Rattle.calls.specs.Lists.{CCalls}
 use Rattle.calls.proofs.Lists.{c-calls-run, c-calls-none}

@@ -10,13 +10,13 @@ use lib.Ieee.{Float, binary64}
 use borrow.Author.Tests.{eqb-true, eqb-false}
 use Rattle.runs.specs.Refusals.{Accepted, InvalidOrder, BadCall, orderRefused}
 use Rattle.runs.specs.Runs.{plusZero}
-use Rattle.sections.specs.Section.{Biquad}
-use Rattle.cascade.specs.Cascade.{CascadeRecord}
+use Rattle.cascade_theory.specs.Section.{Biquad}
+use Rattle.cascade_theory.specs.Cascade.{CascadeRecord}
 use Rattle.cascade.specs.View.{FreshCascade}
-use Rattle.taps.specs.Fir.{TapsRecord, Made, ReadyMade, Blackman, blankTaps, holding, fromCoeffs}
-use Rattle.taps.specs.Lent.{capacity, fits}
-use Rattle.taps.proofs.Laws.{sizes, lengths-fit}
-use Rattle.taps.proofs.Fresh.{ready-made-fresh}
+use Rattle.fir_theory.specs.Fir.{TapsRecord, Made, ReadyMade, Blackman, blankTaps, holding, fromCoeffs}
+use Rattle.fir_theory.specs.Lent.{capacity, fits}
+use Rattle.fir_theory.proofs.Laws.{sizes, lengths-fit}
+use Rattle.fir_theory.proofs.Fresh.{ready-made-fresh}
 use Rattle.fir.specs.View.{FreshTaps}
 use Rattle.scalar.specs.Operators.{_⊖_, _⊗_}
 use Rattle.checks.specs.Checks.{validateParams, validateChebyshev, validateBand, validateFir}

@@ -4,11 +4,11 @@ use mathlib.Core.List.{List}
 use lib.Ieee.{binary64}
 use Rattle.runs.specs.Forgetting.{Call, Outcome, run}
 use Rattle.runs.proofs.Forgetting.{forgets-shown, run-step, run-block, run-reset}
-use Rattle.cascade.specs.Cascade.{cascade}
+use Rattle.cascade_theory.specs.Cascade.{cascade}
 use Rattle.cascade.specs.View.{cascadeView}
 use Rattle.cascade.specs.declared.Cascade.{Cascade}
-use Rattle.plain.specs.Cascade.{plainCascade, coefficientsOf}
-use Rattle.plain.proofs.Cascade.{forgets}
+use Rattle.cascade_theory.specs.Plain.{plainCascade, coefficientsOf}
+use Rattle.cascade_theory.proofs.Forgetting.{forgets}
 use Rattle.claims.specs.Lists.{CascadeCalls, ended, updateCalled, blockCalled, resetCalled}
 use Rattle.claims.proofs.cascade_calls_forget.Statement.{statement}
 use Rattle.claims.proofs.cascade_calls_forget.Tie as tie

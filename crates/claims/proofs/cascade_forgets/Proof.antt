@@ -1,7 +1,7 @@
 -- `claims::cascade_forgets` meets its contract. Assumes nothing.
 use lib.Ieee.{binary64}
 use Rattle.cascade.specs.View.{cascadeView}
-use Rattle.plain.proofs.Cascade.{forgets}
+use Rattle.cascade_theory.proofs.Forgetting.{forgets}
 use Rattle.claims.proofs.cascade_forgets.Statement.{statement}
 use Rattle.claims.proofs.cascade_forgets.Tie as tie
 

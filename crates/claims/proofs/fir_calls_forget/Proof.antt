@@ -6,12 +6,12 @@ use lib.Ieee.{binary64}
 use borrow.Author.Needs.{needs}
 use Rattle.runs.specs.Forgetting.{Call, Outcome, run}
 use Rattle.runs.proofs.Forgetting.{forgets-shown, run-step, run-block, run-reset}
-use Rattle.taps.specs.Fir.{fir}
-use Rattle.taps.specs.Lent.{capacity}
+use Rattle.fir_theory.specs.Fir.{fir}
+use Rattle.fir_theory.specs.Lent.{capacity}
 use Rattle.fir.specs.View.{tapsView}
 use Rattle.fir.specs.declared.TapRecord.{TapRecord}
-use Rattle.plain.specs.Fir.{plainFir, tapsOf}
-use Rattle.plain.proofs.Fir.{forgets}
+use Rattle.fir_theory.specs.Plain.{plainFir, tapsOf}
+use Rattle.fir_theory.proofs.Forgetting.{forgets}
 use Rattle.claims.specs.Lists.{FirCalls, firEnded, firUpdateCalled, firBlockCalled, firResetCalled}
 use Rattle.claims.proofs.fir_calls_forget.Statement.{statement}
 use Rattle.claims.proofs.fir_calls_forget.Tie as tie

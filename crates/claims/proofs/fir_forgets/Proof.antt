@@ -3,9 +3,9 @@ use mathlib.Core.Path.{_≡_}
 use lib.ListN.{length}
 use lib.Ieee.{binary64}
 use borrow.Author.Needs.{needs}
-use Rattle.taps.specs.Lent.{capacity}
+use Rattle.fir_theory.specs.Lent.{capacity}
 use Rattle.fir.specs.View.{tapsView}
-use Rattle.plain.proofs.Fir.{forgets}
+use Rattle.fir_theory.proofs.Forgetting.{forgets}
 use Rattle.claims.proofs.fir_forgets.Statement.{statement}
 use Rattle.claims.proofs.fir_forgets.Tie as tie
 

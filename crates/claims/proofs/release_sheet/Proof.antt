@@ -5,7 +5,7 @@ use Rattle.runs.specs.Refusals.{orderRefused}
 use Rattle.checks.specs.Checks.{notPositive, cutoffRefused, bandRefused, validateParams, validateBand, validateFir}
 use Rattle.runs.specs.Runs.{notAllFinite, step, block}
 use Rattle.ieee.specs.Sqrt.{sqrtOf}
-use Rattle.taps.specs.Fir.{pushed, next, heldOf, clouding, sum, value, mark, checkTaps, holding, fromCoeffs}
+use Rattle.fir_theory.specs.Fir.{pushed, next, heldOf, clouding, sum, value, mark, checkTaps, holding, fromCoeffs}
 use Rattle.designs.specs.LowPass.{butterworthLp}
 use Rattle.designs.specs.BandPass.{butterworthBp}
 use Rattle.windows.specs.Fir.{firLp}

@@ -3,7 +3,7 @@ use Prim.Native.Nat.{_-_}
 use native.Mathlib.Omega.{arith}
 use lib.ListN.{length}
 use lib.Ieee.{binary64}
-use Rattle.convolution.proofs.Sums.{Scaling, scale-start, scale-turn, scale-done}
+use Rattle.fir_theory.proofs.Sums.{Scaling, scale-start, scale-turn, scale-done}
 use borrow.Author.Needs.{needs}
 use Rattle.convolution.proofs.add_scaled.Statement.{statement}
 use Rattle.convolution.proofs.add_scaled.Tie as tie

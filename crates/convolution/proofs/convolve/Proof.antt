@@ -3,7 +3,7 @@ use mathlib.Core.Path.{sym, _∙_}
 use native.Mathlib.Omega.{arith}
 use borrow.Author.Tests.{not-true, not-false, leb-true}
 use lib.Ieee.{binary64}
-use Rattle.convolution.proofs.Sums.{no-samples-before, no-taps, no-samples, no-places, all-there}
+use Rattle.fir_theory.proofs.Sums.{no-samples-before, no-taps, no-samples, no-places, all-there}
 use borrow.Author.Needs.{needs}
 use Rattle.convolution.proofs.convolve.Statement.{statement}
 use Rattle.convolution.proofs.convolve.Tie as tie

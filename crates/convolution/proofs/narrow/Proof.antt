@@ -3,7 +3,7 @@ use borrow.Author.Needs.{needs}
 use Prim.Native.Nat.{_-_}
 use native.Mathlib.Omega.{arith}
 use lib.Ieee.{binary64}
-use Rattle.convolution.proofs.Sums.{Outputting, out-start, out-one, out-done}
+use Rattle.fir_theory.proofs.Sums.{Outputting, out-start, out-one, out-done}
 use Rattle.convolution.proofs.narrow.Statement.{statement}
 use Rattle.convolution.proofs.narrow.Tie as tie
 

@@ -3,8 +3,8 @@ use Prim.Native.Nat.{_-_, _≤_}
 use mathlib.Core.Path.{_≡_, refl}
 use native.Mathlib.Omega.{arith}
 use lib.Ieee.{binary64, ofBits}
-use Rattle.convolution.specs.Convolution.{sumAt}
-use Rattle.convolution.proofs.Sums.{one-turn, one-done}
+use Rattle.fir_theory.specs.Convolution.{sumAt}
+use Rattle.fir_theory.proofs.Sums.{one-turn, one-done}
 use borrow.Author.Needs.{needs}
 use Rattle.convolution.proofs.one.Statement.{statement}
 use Rattle.convolution.proofs.one.Tie as tie

@@ -1,6 +1,6 @@
 -- `convolution::outputs` meets its contract. Assumes nothing.
 use lib.Ieee.{binary64}
-use Rattle.convolution.proofs.Sums.{parts}
+use Rattle.fir_theory.proofs.Sums.{parts}
 use borrow.Author.Needs.{needs}
 use Rattle.convolution.proofs.outputs.Statement.{statement}
 use Rattle.convolution.proofs.outputs.Tie as tie

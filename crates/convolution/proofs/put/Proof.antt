@@ -2,7 +2,7 @@
 use Prim.Native.Nat.{_-_}
 use native.Mathlib.Omega.{arith}
 use lib.ListN.{length}
-use Rattle.convolution.proofs.Sums.{Putting, put-start, put-turn, put-done}
+use Rattle.fir_theory.proofs.Sums.{Putting, put-start, put-turn, put-done}
 use borrow.Author.Needs.{needs}
 use Rattle.convolution.proofs.put.Statement.{statement}
 use Rattle.convolution.proofs.put.Tie as tie

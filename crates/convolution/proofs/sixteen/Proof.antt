@@ -1,10 +1,10 @@
-use Rattle.convolution.proofs.Sums.{taps-turn, taps-done, sums-length}
+use Rattle.fir_theory.proofs.Sums.{taps-turn, taps-done, sums-length}
 -- `convolution::sixteen` meets its contract. Assumes nothing.
 use Prim.Native.Nat.{_-_, _≤_}
 use mathlib.Core.Path.{_≡_, refl, sym}
 use native.Mathlib.Omega.{arith}
 use lib.Ieee.{binary64, ofBits}
-use Rattle.convolution.specs.Convolution.{sumAt, sumsFrom}
+use Rattle.fir_theory.specs.Convolution.{sumAt, sumsFrom}
 use borrow.Author.Needs.{needs}
 use Rattle.convolution.proofs.sixteen.Statement.{statement}
 use Rattle.convolution.proofs.sixteen.Tie as tie

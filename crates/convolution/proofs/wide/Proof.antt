@@ -4,7 +4,7 @@ use Prim.Native.Nat.{_-_}
 use native.Mathlib.Omega.{arith}
 use mathlib.Core.Path.{sym}
 use lib.Ieee.{binary64}
-use Rattle.convolution.proofs.Sums.{Outputting, out-start, out-turn, sums-length}
+use Rattle.fir_theory.proofs.Sums.{Outputting, out-start, out-turn, sums-length}
 use Rattle.convolution.proofs.wide.Statement.{statement}
 use Rattle.convolution.proofs.wide.Tie as tie
 

@@ -6,7 +6,7 @@ use lib.Dec.{eqb}
 use borrow.Author.Tests.{not-true, not-false, eq-eqb}
 use Rattle.layout.proofs.Laws.{cond-true}
 use lib.ListN.{length}
-use Rattle.taps.specs.Lent.{capacity}
+use Rattle.fir_theory.specs.Lent.{capacity}
 use Rattle.fir.specs.View.{madeView}
 use Rattle.calls.specs.Kinds.{tapsCounts}
 use Rattle.calls.specs.Calls.{tapsPlaces}

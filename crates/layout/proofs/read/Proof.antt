@@ -2,7 +2,7 @@
 use mathlib.Core.Path.{_≡_, sym, _∙_}
 use mathlib.Core.Bool.{true}
 use borrow.Author.Tests.{not-true, not-false}
-use Rattle.cascade.specs.Cascade.{blankCascade}
+use Rattle.cascade_theory.specs.Cascade.{blankCascade}
 use Rattle.layout.specs.Layout.{cascadePlaces, cascadeAt}
 use Rattle.layout.proofs.Laws.{places-lengths, cond-true, cond-false}
 use borrow.Author.Needs.{needs}

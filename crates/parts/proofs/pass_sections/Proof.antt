@@ -4,7 +4,7 @@ use native.Mathlib.Omega.{arith}
 use lib.ListN.{length}
 use lib.Ieee.{binary64}
 use Rattle.sections.specs.View.{sectionView}
-use Rattle.parts.proofs.Turns.{four-turns}
+use Rattle.cascade_theory.proofs.Turns.{four-turns}
 use borrow.Author.Needs.{needs}
 use Rattle.parts.proofs.pass_sections.Statement.{statement}
 use Rattle.parts.proofs.pass_sections.Tie as tie

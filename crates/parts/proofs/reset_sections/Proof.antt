@@ -5,9 +5,9 @@ use Prim.Native.Nat.{_≤_, _<_, _-_}
 use native.Mathlib.Omega.{arith}
 use borrow.Author.Needs.{needs}
 use lib.ListN.{length, length-map}
-use Rattle.sections.specs.Section.{clearedBiquad}
+use Rattle.cascade_theory.specs.Section.{clearedBiquad}
 use Rattle.sections.specs.View.{sectionView}
-use Rattle.parts.proofs.Loops.{upTo, upTo-none, upTo-turn, upTo-all}
+use Rattle.cascade_theory.proofs.Loops.{upTo, upTo-none, upTo-turn, upTo-all}
 use Rattle.parts.proofs.reset_sections.Statement.{statement}
 use Rattle.parts.proofs.reset_sections.Tie as tie
 

@@ -1,8 +1,8 @@
 -- `skew::advance` meets its contract. Assumes nothing.
 use borrow.Author.Needs.{needs}
 use lib.Ieee.{binary64}
-use Rattle.skew.specs.Skew.{lineOut}
-use Rattle.skew.proofs.Laws.{went, advanced-is}
+use Rattle.cascade_theory.specs.Skew.{lineOut}
+use Rattle.cascade_theory.proofs.Skew.{went, advanced-is}
 use Rattle.skew.proofs.advance.Statement.{statement}
 use Rattle.skew.proofs.advance.Tie as tie
 

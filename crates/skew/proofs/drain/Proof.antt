@@ -1,7 +1,7 @@
 -- `skew::drain` meets its contract. Assumes nothing.
 use borrow.Author.Needs.{needs}
 use lib.Ieee.{binary64}
-use Rattle.skew.proofs.Laws.{went, drained-is}
+use Rattle.cascade_theory.proofs.Skew.{went, drained-is}
 use Rattle.skew.proofs.drain.Statement.{statement}
 use Rattle.skew.proofs.drain.Tie as tie
 

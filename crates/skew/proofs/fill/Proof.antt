@@ -1,7 +1,7 @@
 -- `skew::fill` meets its contract. Assumes nothing.
 use borrow.Author.Needs.{needs}
 use lib.Ieee.{binary64}
-use Rattle.skew.proofs.Laws.{went, filled-is}
+use Rattle.cascade_theory.proofs.Skew.{went, filled-is}
 use Rattle.skew.proofs.fill.Statement.{statement}
 use Rattle.skew.proofs.fill.Tie as tie
 

@@ -6,9 +6,9 @@ use lib.ListN.{length, getD, length-set}
 use lib.Ieee.{binary64, nan}
 use borrow.Author.Needs.{needs}
 use borrow.Author.Tests.{le-leb, lt-leb}
-use Rattle.skew.specs.Skew.{FourRecord, filled, ran}
+use Rattle.cascade_theory.specs.Skew.{FourRecord, filled, ran}
 use Rattle.skew.specs.View.{lineView}
-use Rattle.skew.proofs.Laws.{Behind, line-start, line-turn, line-done}
+use Rattle.cascade_theory.proofs.Skew.{Behind, line-start, line-turn, line-done}
 use Rattle.skew.proofs.run.Statement.{statement}
 use Rattle.skew.proofs.run.Tie as tie
 

@@ -4,7 +4,7 @@ use native.Mathlib.Omega.{arith}
 use lib.ListN.{length}
 use lib.Ieee.{binary64}
 use borrow.Author.Needs.{needs}
-use Rattle.cascade.specs.Cascade.{cascade}
+use Rattle.cascade_theory.specs.Cascade.{cascade}
 use Rattle.cascade.specs.View.{cascadeView}
 use Rattle.runs.proofs.Laws.{Stepping, steps-start, steps-turn, steps-done}
 use Rattle.steps.proofs.run_cascade.Statement.{statement}

@@ -4,8 +4,8 @@ use native.Mathlib.Omega.{arith}
 use lib.ListN.{length}
 use lib.Ieee.{binary64}
 use borrow.Author.Needs.{needs}
-use Rattle.taps.specs.Fir.{fir}
-use Rattle.taps.specs.Lent.{capacity}
+use Rattle.fir_theory.specs.Fir.{fir}
+use Rattle.fir_theory.specs.Lent.{capacity}
 use Rattle.fir.specs.View.{tapsView}
 use Rattle.runs.proofs.Laws.{Stepping, steps-start, steps-turn, steps-done}
 use Rattle.steps.proofs.run_fir.Statement.{statement}

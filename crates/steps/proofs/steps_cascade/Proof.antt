@@ -1,7 +1,7 @@
 -- `steps::steps_cascade` meets its contract. Assumes nothing.
 use mathlib.Core.Path.{ap, _∙_}
 use lib.Ieee.{binary64}
-use Rattle.cascade.specs.Cascade.{cascade}
+use Rattle.cascade_theory.specs.Cascade.{cascade}
 use Rattle.designs.specs.Design.{DesignRecord}
 use Rattle.designs.specs.View.{designView}
 use Rattle.steps.specs.Steps.{stepsOf, cascadeSteps}

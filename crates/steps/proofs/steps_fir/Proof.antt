@@ -1,8 +1,8 @@
 -- `steps::steps_fir` meets its contract. Assumes nothing.
 use mathlib.Core.Path.{ap, _∙_}
 use lib.Ieee.{binary64}
-use Rattle.taps.specs.Fir.{Made, fir}
-use Rattle.taps.specs.Lent.{capacity}
+use Rattle.fir_theory.specs.Fir.{Made, fir}
+use Rattle.fir_theory.specs.Lent.{capacity}
 use Rattle.fir.specs.View.{madeView}
 use Rattle.steps.specs.Steps.{stepsOf, firSteps}
 use Rattle.steps.proofs.Laws.{steps-refused, steps-short, steps-ran}

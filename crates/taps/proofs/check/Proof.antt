@@ -1,6 +1,6 @@
 -- `taps::check` meets its contract. Assumes nothing.
 use borrow.Author.Tests.{lt-leb, le-leb}
-use Rattle.taps.specs.Fir.{checkTaps}
+use Rattle.fir_theory.specs.Fir.{checkTaps}
 use Rattle.taps.proofs.check.Statement.{statement}
 use Rattle.taps.proofs.check.Tie as tie
 

@@ -6,7 +6,7 @@ use lib.ListN.{length, replicate}
 use lib.Ieee.{ofBits}
 use Rattle.runs.specs.Runs.{plusZero}
 use Rattle.lists.proofs.Copies.{copy-start}
-use Rattle.taps.proofs.Laws.{Clearing, clear-turn, clear-done}
+use Rattle.fir_theory.proofs.Laws.{Clearing, clear-turn, clear-done}
 use Rattle.taps.proofs.clear.Statement.{statement}
 use Rattle.taps.proofs.clear.Tie as tie
 

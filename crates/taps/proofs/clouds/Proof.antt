@@ -2,8 +2,8 @@
 use mathlib.Core.Path.{sym, _∙_}
 use lib.Ieee.{binary64}
 use borrow.Author.Needs.{needs}
-use Rattle.taps.specs.Fir.{clouding}
-use Rattle.taps.proofs.Laws.{finite-clear}
+use Rattle.fir_theory.specs.Fir.{clouding}
+use Rattle.fir_theory.proofs.Laws.{finite-clear}
 use Rattle.taps.proofs.clouds.Statement.{statement}
 use Rattle.taps.proofs.clouds.Tie as tie
 

@@ -5,7 +5,7 @@ use native.Mathlib.Omega.{arith}
 use lib.ListN.{take}
 use lib.Ieee.{binary64, ofBits}
 use borrow.Author.Needs.{needs}
-use Rattle.taps.proofs.Laws.{Summing, sum-turn, sum-done}
+use Rattle.fir_theory.proofs.Laws.{Summing, sum-turn, sum-done}
 use Rattle.taps.proofs.convolve.Statement.{statement}
 use Rattle.taps.proofs.convolve.Tie as tie
 

@@ -1,6 +1,6 @@
 -- `taps::fit` meets its contract. Assumes nothing.
 use borrow.Author.Tests.{eq-eqb, ne-eqb}
-use Rattle.taps.specs.Lent.{fits}
+use Rattle.fir_theory.specs.Lent.{fits}
 use Rattle.taps.proofs.fit.Statement.{statement}
 use Rattle.taps.proofs.fit.Tie as tie
 

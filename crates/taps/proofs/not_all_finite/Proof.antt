@@ -5,7 +5,7 @@ use native.Mathlib.Omega.{arith}
 use lib.ListN.{take}
 use borrow.Author.Tests.{not-true, not-false}
 use borrow.Author.Needs.{needs}
-use Rattle.taps.proofs.Laws.{Looking, look-turn, look-found, look-done}
+use Rattle.fir_theory.proofs.Laws.{Looking, look-turn, look-found, look-done}
 use Rattle.taps.proofs.not_all_finite.Statement.{statement}
 use Rattle.taps.proofs.not_all_finite.Tie as tie
 

@@ -5,7 +5,7 @@ use native.Mathlib.Omega.{arith}
 use Prim.Native.Nat.{_+_, min}
 use borrow.Author.Needs.{needs}
 use lib.ListN.{length}
-use Rattle.taps.proofs.Laws.{length-pushed}
+use Rattle.fir_theory.proofs.Laws.{length-pushed}
 use Rattle.taps.proofs.pass.Statement.{statement}
 use Rattle.taps.proofs.pass.Tie as tie
 

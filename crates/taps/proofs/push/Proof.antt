@@ -3,7 +3,7 @@ use Prim.Native.Nat.{_≤_, _-_}
 use mathlib.Core.Path.{_≡_}
 use native.Mathlib.Omega.{arith}
 use borrow.Author.Needs.{needs}
-use Rattle.taps.proofs.Laws.{Pushing, push-start, push-turn}
+use Rattle.fir_theory.proofs.Laws.{Pushing, push-start, push-turn}
 use Rattle.taps.proofs.push.Statement.{statement}
 use Rattle.taps.proofs.push.Tie as tie
 

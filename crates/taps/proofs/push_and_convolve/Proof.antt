@@ -6,7 +6,7 @@ use mathlib.Core.List.{_∷_}
 use lib.ListN.{take}
 use lib.Ieee.{binary64, ofBits}
 use borrow.Author.Needs.{needs}
-use Rattle.taps.proofs.Laws.{Pushing, push-start, push-turn, take-pushed, Summing, sum-turn, sum-done}
+use Rattle.fir_theory.proofs.Laws.{Pushing, push-start, push-turn, take-pushed, Summing, sum-turn, sum-done}
 use Rattle.taps.proofs.push_and_convolve.Statement.{statement}
 use Rattle.taps.proofs.push_and_convolve.Tie as tie
 

@@ -3,8 +3,8 @@ use mathlib.Core.Path.{sym, _∙_}
 use lib.Ieee.{binary64}
 use borrow.Author.Tests.{not-true, not-false}
 use Rattle.runs.proofs.Lent.{refusal-unfit, refusal-unchecked, refusal-none}
-use Rattle.taps.specs.Fir.{checkTaps, fir}
-use Rattle.taps.specs.Lent.{capacity, fits}
+use Rattle.fir_theory.specs.Fir.{checkTaps, fir}
+use Rattle.fir_theory.specs.Lent.{capacity, fits}
 use borrow.Author.Needs.{needs}
 use Rattle.taps.proofs.refusal_of.Statement.{statement}
 use Rattle.taps.proofs.refusal_of.Tie as tie

@@ -3,9 +3,9 @@ use mathlib.Core.Path.{sym, _∙_}
 use native.Mathlib.Omega.{arith}
 use lib.Ieee.{binary64}
 use Rattle.runs.proofs.Lent.{lent-good, lent-reset-refused}
-use Rattle.taps.specs.Fir.{fir}
-use Rattle.taps.specs.Lent.{capacity, fits}
-use Rattle.taps.proofs.Laws.{reset-is}
+use Rattle.fir_theory.specs.Fir.{fir}
+use Rattle.fir_theory.specs.Lent.{capacity, fits}
+use Rattle.fir_theory.proofs.Laws.{reset-is}
 use borrow.Author.Needs.{needs}
 use Rattle.taps.proofs.reset.Statement.{statement}
 use Rattle.taps.proofs.reset.Tie as tie

@@ -4,9 +4,9 @@ use mathlib.Core.Bool.{true, false}
 use native.Mathlib.Omega.{arith}
 use lib.Ieee.{binary64}
 use Rattle.runs.proofs.Lent.{lent-good, lent-step-refused}
-use Rattle.taps.specs.Fir.{TapsRecord, checkTaps, fir}
-use Rattle.taps.specs.Lent.{capacity, lentTaps, fits}
-use Rattle.taps.proofs.Laws.{rooms, update-is}
+use Rattle.fir_theory.specs.Fir.{TapsRecord, checkTaps, fir}
+use Rattle.fir_theory.specs.Lent.{capacity, lentTaps, fits}
+use Rattle.fir_theory.proofs.Laws.{rooms, update-is}
 use borrow.Author.Needs.{needs}
 use Rattle.taps.proofs.update.Statement.{statement}
 use Rattle.taps.proofs.update.Tie as tie

@@ -1,7 +1,7 @@
 -- `windows::design_fir_lp` meets its contract. Assumes nothing.
 use mathlib.Core.Path.{sym, ap, _∙_}
-use Rattle.taps.specs.Fir.{TapsRecord}
-use Rattle.taps.specs.Lent.{capacity}
+use Rattle.fir_theory.specs.Fir.{TapsRecord}
+use Rattle.fir_theory.specs.Lent.{capacity}
 use Rattle.checks.proofs.Laws.{good-fir}
 use Rattle.windows.proofs.Taps.{taps-done, fir-refused, fir-accepted}
 use borrow.Author.Needs.{needs}

@@ -8,7 +8,7 @@ use Prim.Native.Nat.{_≤_, _-_}
 use mathlib.Core.Path.{_≡_, refl}
 use native.Mathlib.Omega.{arith}
 use lib.Ieee.{ofBits}
-use Rattle.taps.specs.Lent.{capacity}
+use Rattle.fir_theory.specs.Lent.{capacity}
 use Rattle.checks.specs.Lists.{upTo}
 use Rattle.windows.specs.Fir.{tapOf}
 use borrow.Author.Needs.{needs}

@@ -3,7 +3,7 @@ use mathlib.Core.Path.{sym, _∙_}
 use borrow.Author.Tests.{not-true, not-false}
 use lib.Ieee.{binary64}
 use Rattle.runs.proofs.Laws.{block-refused, block-short}
-use Rattle.cascade.specs.Cascade.{cascade}
+use Rattle.cascade_theory.specs.Cascade.{cascade}
 use borrow.Author.Needs.{needs}
 use Rattle.cascade.proofs.Cascade.block.Statement.{statement}
 use Rattle.cascade.proofs.Cascade.block.Tie as tie

@@ -1,6 +1,6 @@
 -- `cascade::Cascade::check` meets its contract. Assumes nothing.
 use borrow.Author.Tests.{lt-ltb, le-ltb, lt-leb, le-leb}
-use Rattle.cascade.specs.Cascade.{checkCascade}
+use Rattle.cascade_theory.specs.Cascade.{checkCascade}
 use Rattle.cascade.proofs.Cascade.check.Statement.{statement}
 use Rattle.cascade.proofs.Cascade.check.Tie as tie
 

@@ -1,5 +1,5 @@
 -- `cascade::Cascade::moved` meets its contract. Assumes nothing.
-use Rattle.cascade.specs.Cascade.{value, moved}
+use Rattle.cascade_theory.specs.Cascade.{value, moved}
 use borrow.Author.Needs.{needs}
 use Rattle.cascade.proofs.Cascade.moved.Statement.{statement}
 use Rattle.cascade.proofs.Cascade.moved.Tie as tie

@@ -2,7 +2,7 @@
 use mathlib.Core.Path.{_∙_, ap₂}
 use mathlib.Core.Bool.{_||_}
 use lib.Ieee.{Float}
-use Rattle.cascade.specs.Cascade.{CascadeRecord, flagged, clouding, mark, next}
+use Rattle.cascade_theory.specs.Cascade.{CascadeRecord, flagged, clouding, mark, next}
 use Rattle.cascade.specs.View.{cascadeView}
 use borrow.Author.Needs.{needs}
 use Rattle.cascade.proofs.Cascade.pass.Statement.{statement}

@@ -5,9 +5,9 @@ use native.Mathlib.Omega.{arith}
 use lib.ListN.{length}
 use lib.Ieee.{binary64}
 use Rattle.runs.proofs.Laws.{Running, run-start, run-turn, run-done}
-use Rattle.cascade.specs.Cascade.{cascade}
+use Rattle.cascade_theory.specs.Cascade.{cascade}
 use Rattle.cascade.specs.View.{cascadeView}
-use Rattle.cascade.proofs.Laws.{check-next, mark-next}
+use Rattle.cascade_theory.proofs.Laws.{check-next, mark-next}
 use borrow.Author.Needs.{needs}
 use Rattle.cascade.proofs.Cascade.plain_block.Statement.{statement}
 use Rattle.cascade.proofs.Cascade.plain_block.Tie as tie

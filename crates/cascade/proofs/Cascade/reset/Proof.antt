@@ -3,7 +3,7 @@ use mathlib.Core.Path.{sym, _∙_}
 use borrow.Author.Tests.{not-true, not-false}
 use lib.Ieee.{binary64}
 use Rattle.runs.proofs.Laws.{reset-refused, reset-done}
-use Rattle.cascade.specs.Cascade.{clearedCascade, cascade}
+use Rattle.cascade_theory.specs.Cascade.{clearedCascade, cascade}
 use borrow.Author.Needs.{needs}
 use Rattle.cascade.proofs.Cascade.reset.Statement.{statement}
 use Rattle.cascade.proofs.Cascade.reset.Tie as tie

@@ -1,6 +1,6 @@
 -- `cascade::Cascade::skewed_block` meets its contract: a run of the four sections. Assumes nothing.
 use lib.Ieee.{binary64}
-use Rattle.cascade.proofs.Skewed.{block-skewed}
+use Rattle.cascade_theory.proofs.Skewed.{block-skewed}
 use borrow.Author.Needs.{needs}
 use Rattle.cascade.proofs.Cascade.skewed_block.Statement.{statement}
 use Rattle.cascade.proofs.Cascade.skewed_block.Tie as tie

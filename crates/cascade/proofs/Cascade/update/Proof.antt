@@ -4,8 +4,8 @@ use mathlib.Core.Bool.{true, false}
 use borrow.Author.Tests.{not-true, not-false}
 use lib.Ieee.{binary64}
 use Rattle.runs.proofs.Laws.{step-refused, step-answered}
-use Rattle.cascade.specs.Cascade.{cascade}
-use Rattle.cascade.proofs.Laws.{answer-is}
+use Rattle.cascade_theory.specs.Cascade.{cascade}
+use Rattle.cascade_theory.proofs.Laws.{answer-is}
 use borrow.Author.Needs.{needs}
 use Rattle.cascade.proofs.Cascade.update.Statement.{statement}
 use Rattle.cascade.proofs.Cascade.update.Tie as tie

@@ -1,11 +1,11 @@
 -- `fir::TapRecord::from_coeffs` meets its contract. Assumes nothing.
 use Prim.Native.Nat.{_≤_, _-_}
 use native.Mathlib.Omega.{arith}
-use Rattle.taps.specs.Fir.{zeros}
-use Rattle.taps.specs.Lent.{capacity}
+use Rattle.fir_theory.specs.Fir.{zeros}
+use Rattle.fir_theory.specs.Lent.{capacity}
 use borrow.Author.Needs.{needs}
 use Rattle.lists.proofs.Copies.{Copying, copy-start, copy-turn}
-use Rattle.taps.proofs.Laws.{made-none, made-many, made}
+use Rattle.fir_theory.proofs.Laws.{made-none, made-many, made}
 use Rattle.fir.proofs.TapRecord.from_coeffs.Statement.{statement}
 use Rattle.fir.proofs.TapRecord.from_coeffs.Tie as tie
 

@@ -3,9 +3,9 @@ use mathlib.Core.Path.{_≡_, _∙_}
 use lib.Ieee.{binary64}
 use lib.ListN.{length}
 use Rattle.runs.proofs.Lent.{lent-reset}
-use Rattle.taps.specs.Fir.{fir}
-use Rattle.taps.specs.Lent.{capacity, fits}
-use Rattle.taps.proofs.Laws.{lengths-fit}
+use Rattle.fir_theory.specs.Fir.{fir}
+use Rattle.fir_theory.specs.Lent.{capacity, fits}
+use Rattle.fir_theory.proofs.Laws.{lengths-fit}
 use borrow.Author.Needs.{needs}
 use Rattle.fir.proofs.TapRecord.reset.Statement.{statement}
 use Rattle.fir.proofs.TapRecord.reset.Tie as tie

@@ -3,7 +3,7 @@ use mathlib.Core.Path.{_∙_, ap}
 use lib.Ieee.{neg}
 use Rattle.scalar.specs.Operators.{_⊘_}
 use Rattle.scalar.specs.Constants.{one, two}
-use Rattle.sections.specs.Section.{newBiquad}
+use Rattle.cascade_theory.specs.Section.{newBiquad}
 use Rattle.poles.specs.Butterworth.{DenominatorRecord, hpBiquad}
 use Rattle.poles.specs.Butterworth.{hpBiquad}
 use borrow.Author.Needs.{needs}

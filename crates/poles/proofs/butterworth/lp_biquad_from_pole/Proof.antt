@@ -2,7 +2,7 @@
 use mathlib.Core.Path.{_∙_, ap}
 use Rattle.scalar.specs.Operators.{_⊗_, _⊘_}
 use Rattle.scalar.specs.Constants.{two}
-use Rattle.sections.specs.Section.{newBiquad}
+use Rattle.cascade_theory.specs.Section.{newBiquad}
 use Rattle.poles.specs.Butterworth.{DenominatorRecord, lpBiquad}
 use Rattle.poles.specs.Butterworth.{lpBiquad}
 use borrow.Author.Needs.{needs}

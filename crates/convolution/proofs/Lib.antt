@@ -1,2 +1,0 @@
--- The laws of the loops.
-pub mod Sums

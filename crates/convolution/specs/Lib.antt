@@ -1,2 +1,0 @@
--- Sums of taps and samples.
-pub mod Convolution

@@ -1,0 +1,19 @@
+-- A tap record lent: its taps and its samples are slices, its length, held count and window code are numbers. Definitions only.
+use Prim.Native.Nat.{ℕ}
+use mathlib.Core.Bool.{Bool, _&&_}
+use mathlib.Core.List.{List}
+use lib.Dec.{eqb}
+use lib.ListN.{length}
+use lib.Ieee.{Float}
+use Rattle.fir_theory.specs.Fir.{TapsRecord}
+
+-- the code's capacity
+abbrev pub capacity : ℕ
+capacity = 64
+
+abbrev pub lentTaps : List Float → List Float → ℕ → ℕ → ℕ → TapsRecord
+lentTaps taps samples size held window = record { taps = taps; samples = samples; size = size; held = held; window = window }
+
+-- whether the slices fit the record: each has as many places as the capacity
+unfoldable pub fits : ℕ → TapsRecord → Bool
+fits capacity r = eqb (length (r .taps)) capacity && eqb (length (r .samples)) capacity
