@@ -4,13 +4,10 @@ use borrow.Author.Needs.{needs}
 use Rattle.bandpass.proofs.bp_biquad_from_bp_pole_pair.Statement.{statement}
 use Rattle.bandpass.proofs.bp_biquad_from_bp_pole_pair.Tie as tie
 
-bp-biquad-from-sum-and-product-requires : tie.Need-bp-biquad-from-sum-and-product-requires
-bp-biquad-from-sum-and-product-requires c κs = search needs
-
 returns : tie.Need-returns
 unfolding bpBiquad
 returns c = c .bp-biquad-from-sum-and-product .ensures
 
 pub bp-biquad-from-bp-pole-pair-spec : {M : Type 1} → statement M
 bp-biquad-from-bp-pole-pair-spec =
-    tie.close (tie.spec bp-biquad-from-sum-and-product-requires returns)
+    tie.close (tie.spec (λ c κs. search needs) returns)

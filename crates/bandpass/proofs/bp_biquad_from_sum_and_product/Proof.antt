@@ -4,12 +4,9 @@ use borrow.Author.Needs.{needs}
 use Rattle.bandpass.proofs.bp_biquad_from_sum_and_product.Statement.{statement}
 use Rattle.bandpass.proofs.bp_biquad_from_sum_and_product.Tie as tie
 
-new-requires : tie.Need-new-requires
-new-requires c κs = search needs
-
 returns : tie.Need-returns
 unfolding bandBiquad
 returns c = c .new .ensures
 
 pub bp-biquad-from-sum-and-product-spec : {M : Type 1} → statement M
-bp-biquad-from-sum-and-product-spec = tie.close (tie.spec new-requires returns)
+bp-biquad-from-sum-and-product-spec = tie.close (tie.spec (λ c κs. search needs) returns)

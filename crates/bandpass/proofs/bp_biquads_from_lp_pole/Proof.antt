@@ -4,21 +4,6 @@ use borrow.Author.Needs.{needs}
 use Rattle.bandpass.proofs.bp_biquads_from_lp_pole.Statement.{statement}
 use Rattle.bandpass.proofs.bp_biquads_from_lp_pole.Tie as tie
 
-sqrt-requires : tie.Need-sqrt-requires
-sqrt-requires c κs = search needs
-
-sqrt-requires-2 : tie.Need-sqrt-requires-2
-sqrt-requires-2 c κs = search needs
-
-imaginary-root-requires : tie.Need-imaginary-root-requires
-imaginary-root-requires c κs = search needs
-
-bp-biquad-from-bp-pole-pair-requires : tie.Need-bp-biquad-from-bp-pole-pair-requires
-bp-biquad-from-bp-pole-pair-requires c κs = search needs
-
-bp-biquad-from-bp-pole-pair-requires-2 : tie.Need-bp-biquad-from-bp-pole-pair-requires-2
-bp-biquad-from-bp-pole-pair-requires-2 c κs = search needs
-
 returns : tie.Need-returns
 unfolding bpPair
 returns c = let d = c .before .before in
@@ -28,9 +13,9 @@ pub bp-biquads-from-lp-pole-spec : {M : Type 1} → statement M
 bp-biquads-from-lp-pole-spec =
     tie.close
     (tie.spec
-    sqrt-requires
-    sqrt-requires-2
-    imaginary-root-requires
-    bp-biquad-from-bp-pole-pair-requires
-    bp-biquad-from-bp-pole-pair-requires-2
+    (λ c κs. search needs)
+    (λ c κs. search needs)
+    (λ c κs. search needs)
+    (λ c κs. search needs)
+    (λ c κs. search needs)
     returns)

@@ -7,9 +7,6 @@ use borrow.Author.Needs.{needs}
 use Rattle.bandpass.proofs.imaginary_root.Statement.{statement}
 use Rattle.bandpass.proofs.imaginary_root.Tie as tie
 
-abs-requires : tie.Need-abs-requires
-abs-requires c κs = search needs
-
 returns : tie.Need-returns
 unfolding imaginaryRoot
 returns c = rw (ap (lt plusZero) (sym (c .before .abs .ensures)) ∙ c .if1 .taken)
@@ -19,4 +16,4 @@ unfolding imaginaryRoot
 returns-2 c = rw (ap (lt plusZero) (sym (c .before .abs .ensures)) ∙ c .if1 .left)
 
 pub imaginary-root-spec : {M : Type 1} → statement M
-imaginary-root-spec = tie.close (tie.spec abs-requires returns returns-2)
+imaginary-root-spec = tie.close (tie.spec (λ c κs. search needs) returns returns-2)

@@ -30,17 +30,8 @@ lent-of e = let a = start e .args in lentTaps (a .taps .now) (a .samples .now) (
 good : (e : tie.Else1) → (fits capacity (lent-of e) ≡ true) × (checkTaps capacity (lent-of e) ≡ true)
 good e = lent-good (fir capacity binary64) (fits capacity) (lent-of e) (λ z. omega arith) (sym (e .before .refusal-of .ensures) ∙ e .if1 .left)
 
-refusal-of-requires : tie.Need-refusal-of-requires
-refusal-of-requires c κs = search needs
-
-same-length : tie.Need-same-length
-same-length c = search needs
-
 returns : tie.Need-returns
 returns c = lent-block-refused (fir capacity binary64) (fits capacity) _ _ _ (c .before .refusal-of .ensures) (c .if1 .taken)
-
-same-length-2 : tie.Need-same-length-2
-same-length-2 c = search needs
 
 returns-2 : tie.Need-returns-2
 returns-2 c = let g = good (c .before) in
@@ -63,12 +54,6 @@ pass-some-requires : tie.Need-pass-some-requires
 pass-some-requires c κs = let j = c .before .before in
     let g = good (else1 j) in
     (g .0, g .1, omega (arith, first-is j), room j)
-
-same-length-3 : tie.Need-same-length-3
-same-length-3 c = search needs
-
-same-length-4 : tie.Need-same-length-4
-same-length-4 c = search needs
 
 returns-3 : tie.Need-returns-3
 returns-3 c = let j = c .before .before .before .before .before .before .before .before in
@@ -113,12 +98,6 @@ add-t17 c = let s = c .before .before .before .before .before .before .before .b
     let few : c .before .before .before .before .before .before .before .before .before .before .before .before .before .pass-some .result .clouded + c .before .before .before .before .before .pass-all .result ≤ length (s .args .input .now) = both (c .before .before .before .before .before) .0 in
     omega arith
 
-same-length-5 : tie.Need-same-length-5
-same-length-5 c = search needs
-
-same-length-6 : tie.Need-same-length-6
-same-length-6 c = search needs
-
 returns-4 : tie.Need-returns-4
 returns-4 c = let a = c .before .before .before .before .before in
     both a .1 ∙ sym (lent-block (fir capacity binary64) (fits capacity) _ _ _ (good (else1 (joined (a .before .before .before))) .0))
@@ -127,18 +106,18 @@ pub block-spec : {M : Type 1} → statement M
 block-spec =
     tie.close
     (tie.spec
-    refusal-of-requires
-    same-length
+    (λ c κs. search needs)
+    (λ c. search needs)
     returns
-    same-length-2
+    (λ c. search needs)
     returns-2
     sub-missing
     pass-some-requires
-    same-length-3
-    same-length-4
+    (λ c. search needs)
+    (λ c. search needs)
     returns-3
     pass-all-requires
     add-t17
-    same-length-5
-    same-length-6
+    (λ c. search needs)
+    (λ c. search needs)
     returns-4)

@@ -15,27 +15,6 @@ abbrev μ-loop : tie.MeasureT-loop
 loop-holds : tie.Need-loop-holds Inv-loop μ-loop
 loop-holds c = back-start _ _ _ _
 
-sub-to : tie.Need-sub-to Inv-loop μ-loop
-sub-to c = omega arith
-
-mul-to : tie.Need-mul-to Inv-loop μ-loop
-mul-to c = search needs
-
-shared-slice-read-to : tie.Need-shared-slice-read-to Inv-loop μ-loop
-shared-slice-read-to c = omega arith
-
-mul-to-2 : tie.Need-mul-to-2 Inv-loop μ-loop
-mul-to-2 c = search needs
-
-slice-write-to : tie.Need-slice-write-to Inv-loop μ-loop
-slice-write-to c = omega arith
-
-add-i : tie.Need-add-i Inv-loop μ-loop
-add-i c = search needs
-
-loop-less : tie.Need-loop-less Inv-loop μ-loop
-loop-less c = search needs
-
 loop-again : tie.Need-loop-again Inv-loop μ-loop
 loop-again c = back-turn _ _ _ (c .before .loop-test .taken) (c .before .before .before .pre .2) (c .before .before .loop .inv)
 
@@ -52,13 +31,13 @@ copy-back-spec =
     Inv-loop
     μ-loop
     loop-holds
-    sub-to
-    mul-to
-    shared-slice-read-to
-    mul-to-2
-    slice-write-to
-    add-i
-    loop-less
+    (λ c. omega arith)
+    (λ c. search needs)
+    (λ c. omega arith)
+    (λ c. search needs)
+    (λ c. omega arith)
+    (λ c. search needs)
+    (λ c. search needs)
     loop-again
     same-length
     returns)

@@ -17,30 +17,6 @@ abbrev μ-loop : tie.MeasureT-loop
 loop-holds : tie.Need-loop-holds Inv-loop μ-loop
 loop-holds c = put-start _ _ _
 
-add-to : tie.Need-add-to Inv-loop μ-loop
-add-to c = search needs
-
-mul-to : tie.Need-mul-to Inv-loop μ-loop
-mul-to c = search needs
-
-shared-slice-read-to : tie.Need-shared-slice-read-to Inv-loop μ-loop
-shared-slice-read-to c = omega arith
-
-add-to-2 : tie.Need-add-to-2 Inv-loop μ-loop
-add-to-2 c = search needs
-
-mul-to-2 : tie.Need-mul-to-2 Inv-loop μ-loop
-mul-to-2 c = search needs
-
-slice-write-to : tie.Need-slice-write-to Inv-loop μ-loop
-slice-write-to c = omega arith
-
-add-j : tie.Need-add-j Inv-loop μ-loop
-add-j c = search needs
-
-loop-less : tie.Need-loop-less Inv-loop μ-loop
-loop-less c = search needs
-
 loop-again : tie.Need-loop-again Inv-loop μ-loop
 loop-again c = on-turn _ _ _ _ _ (c .before .loop-test .taken) (c .before .before .before .pre .0) (c .before .before .before .pre .1) (c .before .before .loop .inv)
 
@@ -57,14 +33,14 @@ copy-on-spec =
     Inv-loop
     μ-loop
     loop-holds
-    add-to
-    mul-to
-    shared-slice-read-to
-    add-to-2
-    mul-to-2
-    slice-write-to
-    add-j
-    loop-less
+    (λ c. search needs)
+    (λ c. search needs)
+    (λ c. omega arith)
+    (λ c. search needs)
+    (λ c. search needs)
+    (λ c. omega arith)
+    (λ c. search needs)
+    (λ c. search needs)
     loop-again
     same-length
     returns)

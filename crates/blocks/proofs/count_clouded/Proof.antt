@@ -17,23 +17,8 @@ abbrev μ-loop : tie.MeasureT-loop
 loop-holds : tie.Need-loop-holds Inv-loop μ-loop
 loop-holds c = count-start _ _ _ _ (c .before .pre .0)
 
-mul-age-after : tie.Need-mul-age-after Inv-loop μ-loop
-mul-age-after c = search needs
-
-shared-slice-read-age-after : tie.Need-shared-slice-read-age-after Inv-loop μ-loop
-shared-slice-read-age-after c = search needs
-
 age-after-requires : tie.Need-age-after-requires Inv-loop μ-loop
 age-after-requires c κs = c .before .before .loop .inv .young
-
-add-clouded : tie.Need-add-clouded Inv-loop μ-loop
-add-clouded c = search needs
-
-add-i : tie.Need-add-i Inv-loop μ-loop
-add-i c = search needs
-
-loop-less : tie.Need-loop-less Inv-loop μ-loop
-loop-less c = search needs
 
 loop-again : tie.Need-loop-again Inv-loop μ-loop
 loop-again c = let a = c .before .before .before .before in
@@ -50,11 +35,11 @@ count-clouded-spec =
     Inv-loop
     μ-loop
     loop-holds
-    mul-age-after
-    shared-slice-read-age-after
+    (λ c. search needs)
+    (λ c. search needs)
     age-after-requires
-    add-clouded
-    add-i
-    loop-less
+    (λ c. search needs)
+    (λ c. search needs)
+    (λ c. search needs)
     loop-again
     returns)

@@ -5,9 +5,6 @@ use borrow.Author.Needs.{needs}
 use Rattle.blocks.proofs.keep_newest.Statement.{statement}
 use Rattle.blocks.proofs.keep_newest.Tie as tie
 
-add-copy-back : tie.Need-add-copy-back
-add-copy-back c = search needs
-
 sub-copy-back : tie.Need-sub-copy-back
 sub-copy-back c = omega (arith, c .before .before .before .before .pre)
 
@@ -20,14 +17,8 @@ sub-copy-back-2 c = omega (arith, c .before .before .before .before .pre)
 copy-back-requires-2 : tie.Need-copy-back-requires-2
 copy-back-requires-2 c κs = let t = c .before in let p = t .before .before .before .before .pre in (omega (arith, p .3, t .if1 .left), omega (arith, p .0, p .3, t .if1 .left), p .1)
 
-same-length : tie.Need-same-length
-same-length c = search needs
-
 returns : tie.Need-returns
 returns c = let t = c .before .before .before .before in newest-window _ _ _ _ _ (t .if1 .taken) (c .before .before .copy-back .ensures)
-
-same-length-2 : tie.Need-same-length-2
-same-length-2 c = search needs
 
 returns-2 : tie.Need-returns-2
 returns-2 c = let t = c .before .before .before .before in newest-input _ _ _ _ _ (t .if1 .left) (c .before .before .copy-back2 .ensures)
@@ -36,12 +27,12 @@ pub keep-newest-spec : {M : Type 1} → statement M
 keep-newest-spec =
     tie.close
     (tie.spec
-    add-copy-back
+    (λ c. search needs)
     sub-copy-back
     copy-back-requires
     sub-copy-back-2
     copy-back-requires-2
-    same-length
+    (λ c. search needs)
     returns
-    same-length-2
+    (λ c. search needs)
     returns-2)

@@ -18,19 +18,10 @@ start j = j .before .before .before .before .before
 few-is : (j : tie.Joined1) → j .if1 .few ≡ min (length (start j .args .input .now) - start j .args .from) (start j .args .n)
 few-is j = ⊎-elim (λ w. omega arith) (λ w. omega arith) (j .if1 .came)
 
-sub-m : tie.Need-sub-m
-sub-m c = search needs
-
 window-of-requires : tie.Need-window-of-requires
 window-of-requires c κs = let j = c .before in
     let p = start j .pre in
     (p .0, p .1, omega (arith, p .1, p .3), omega (arith, few-is j), omega (arith, few-is j, p .4))
-
-slice-aggregate-convolve : tie.Need-slice-aggregate-convolve
-slice-aggregate-convolve c = search needs
-
-convolve-requires : tie.Need-convolve-requires
-convolve-requires c κs = search needs
 
 add-convolve : tie.Need-add-convolve
 add-convolve c = let j = c .before .before .before .before .before .before .before .before in omega (arith, few-is j, start j .pre .4)
@@ -40,27 +31,6 @@ add-convolve-2 c = let j = c .before .before .before .before .before .before .be
 
 sub-convolve : tie.Need-sub-convolve
 sub-convolve c = let j = c .before .before .before .before .before .before .before .before .before in omega (arith, few-is j)
-
-convolve-requires-2 : tie.Need-convolve-requires-2
-convolve-requires-2 c κs = search needs
-
-finite-run-requires : tie.Need-finite-run-requires
-finite-run-requires c κs = search needs
-
-count-clouded-requires : tie.Need-count-clouded-requires
-count-clouded-requires c κs = search needs
-
-slice-aggregate-keep-newest : tie.Need-slice-aggregate-keep-newest
-slice-aggregate-keep-newest c = search needs
-
-keep-newest-requires : tie.Need-keep-newest-requires
-keep-newest-requires c κs = search needs
-
-same-length : tie.Need-same-length
-same-length c = search needs
-
-same-length-2 : tie.Need-same-length-2
-same-length-2 c = search needs
 
 returns : tie.Need-returns
 returns c = λ window g. let j = c .before .before .before .before .before .before .before .before .before .before .before .before .before .before .before .before .before .before .before .before in
@@ -77,18 +47,18 @@ pub pass-all-spec : {M : Type 1} → statement M
 pass-all-spec =
     tie.close
     (tie.spec
-    sub-m
+    (λ c. search needs)
     window-of-requires
-    slice-aggregate-convolve
-    convolve-requires
+    (λ c. search needs)
+    (λ c κs. search needs)
     add-convolve
     add-convolve-2
     sub-convolve
-    convolve-requires-2
-    finite-run-requires
-    count-clouded-requires
-    slice-aggregate-keep-newest
-    keep-newest-requires
-    same-length
-    same-length-2
+    (λ c κs. search needs)
+    (λ c κs. search needs)
+    (λ c κs. search needs)
+    (λ c. search needs)
+    (λ c κs. search needs)
+    (λ c. search needs)
+    (λ c. search needs)
     returns)

@@ -28,35 +28,14 @@ loop-holds : tie.Need-loop-holds Inv-loop μ-loop
 loop-holds c = let s = c .before .before .before .before in
     (s .pre .0, run-start (fir capacity binary64) (check-next capacity) _ _ _ (omega (arith, s .pre .3, length-take-le (s .args .k) (s .args .input .now) (s .pre .2))) (s .pre .1))
 
-mul-update : tie.Need-mul-update Inv-loop μ-loop
-mul-update c = search needs
-
 shared-slice-read-update : tie.Need-shared-slice-read-update Inv-loop μ-loop
 shared-slice-read-update c = let s = c .before .before .before .before .before .before .before .before in omega (arith, s .pre .2, c .before .before .loop-test .taken)
-
-update-requires : tie.Need-update-requires Inv-loop μ-loop
-update-requires c κs = search needs
-
-number-of-requires : tie.Need-number-of-requires Inv-loop μ-loop
-number-of-requires c κs = search needs
-
-mul-output : tie.Need-mul-output Inv-loop μ-loop
-mul-output c = search needs
 
 slice-write-output : tie.Need-slice-write-output Inv-loop μ-loop
 slice-write-output c = let l = c .before .before .before .before .before .before .before in omega (arith, l .loop .inv .1 .same, l .before .before .before .before .before .pre, c .before .before .before .before .before .before .loop-test .taken)
 
-is-clouded-requires : tie.Need-is-clouded-requires Inv-loop μ-loop
-is-clouded-requires c κs = search needs
-
 add-clouded : tie.Need-add-clouded Inv-loop μ-loop
 add-clouded c = let l = c .before .before .before .before .before .before .before .before .before in omega (arith, l .loop .inv .1 .few, l .loop .inv .1 .within, l .before .before .before .before .before .pre)
-
-add-i : tie.Need-add-i Inv-loop μ-loop
-add-i c = search needs
-
-loop-less : tie.Need-loop-less Inv-loop μ-loop
-loop-less c = search needs
 
 loop-again : tie.Need-loop-again Inv-loop μ-loop
 loop-again c = let l = c .before .before .before .before .before .before .before .before .before in
@@ -93,16 +72,16 @@ pass-some-spec =
     Inv-loop
     μ-loop
     loop-holds
-    mul-update
+    (λ c. search needs)
     shared-slice-read-update
-    update-requires
-    number-of-requires
-    mul-output
+    (λ c κs. search needs)
+    (λ c κs. search needs)
+    (λ c. search needs)
     slice-write-output
-    is-clouded-requires
+    (λ c κs. search needs)
     add-clouded
-    add-i
-    loop-less
+    (λ c. search needs)
+    (λ c. search needs)
     loop-again
     same-length
     same-length-2

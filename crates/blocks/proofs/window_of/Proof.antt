@@ -6,9 +6,6 @@ use borrow.Author.Needs.{needs}
 use Rattle.blocks.proofs.window_of.Statement.{statement}
 use Rattle.blocks.proofs.window_of.Tie as tie
 
-empty-window-requires : tie.Need-empty-window-requires
-empty-window-requires c κs = search needs
-
 sub-copy-back : tie.Need-sub-copy-back
 sub-copy-back c = omega (arith, c .before .before .before .pre)
 
@@ -17,9 +14,6 @@ slice-aggregate-copy-back c = sym (c .before .empty-window .ensures)
 
 copy-back-requires : tie.Need-copy-back-requires
 copy-back-requires c κs = let p = c .before .before .before .before .pre in (omega (arith, p .0), omega (arith, p .0, p .2), omega (arith, p .1, c .before .empty-window .ensures))
-
-slice-aggregate-copy-on : tie.Need-slice-aggregate-copy-on
-slice-aggregate-copy-on c = search needs
 
 copy-on-requires : tie.Need-copy-on-requires
 copy-on-requires c κs = let p = c .before .before .before .before .before .before .before .pre in (p .4, omega (arith, p .1, p .3, c .before .window2 .given))
@@ -33,10 +27,10 @@ pub window-of-spec : {M : Type 1} → statement M
 window-of-spec =
     tie.close
     (tie.spec
-    empty-window-requires
+    (λ c κs. search needs)
     sub-copy-back
     slice-aggregate-copy-back
     copy-back-requires
-    slice-aggregate-copy-on
+    (λ c. search needs)
     copy-on-requires
     returns)

@@ -7,12 +7,9 @@ use Rattle.cascade.proofs.clouds.Tie as tie
 returns : tie.Need-returns
 returns c = simp (c .if1 .taken)
 
-is-finite-requires : tie.Need-is-finite-requires
-is-finite-requires c κs = search needs
-
 returns-2 : tie.Need-returns-2
 unfolding clouding
 returns-2 c = simp (c .before .if1 .left, c .is-finite .ensures)
 
 pub clouds-spec : {M : Type 1} → statement M
-clouds-spec = tie.close (tie.spec returns is-finite-requires returns-2)
+clouds-spec = tie.close (tie.spec returns (λ c κs. search needs) returns-2)

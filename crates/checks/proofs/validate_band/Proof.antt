@@ -5,23 +5,14 @@ use borrow.Author.Needs.{needs}
 use Rattle.checks.proofs.validate_band.Statement.{statement}
 use Rattle.checks.proofs.validate_band.Tie as tie
 
-order-refused-requires : tie.Need-order-refused-requires
-order-refused-requires c κs = search needs
-
 returns : tie.Need-returns
 unfolding validateBand
 returns c = rw (sym (c .before .order-refused .ensures) ∙ c .if1 .taken)
-
-band-refused-requires : tie.Need-band-refused-requires
-band-refused-requires c κs = search needs
 
 returns-2 : tie.Need-returns-2
 unfolding validateBand
 returns-2 c = let d = c .before .before in
     rw (sym (d .before .order-refused .ensures) ∙ d .if1 .left, sym (c .before .band-refused .ensures) ∙ c .if2 .taken)
-
-not-positive-requires : tie.Need-not-positive-requires
-not-positive-requires c κs = search needs
 
 returns-3 : tie.Need-returns-3
 unfolding validateBand
@@ -39,10 +30,10 @@ pub validate-band-spec : {M : Type 1} → statement M
 validate-band-spec =
     tie.close
     (tie.spec
-    order-refused-requires
+    (λ c κs. search needs)
     returns
-    band-refused-requires
+    (λ c κs. search needs)
     returns-2
-    not-positive-requires
+    (λ c κs. search needs)
     returns-3
     returns-4)

@@ -39,17 +39,11 @@ drew-none cutoff rate n next = go (orderRefused n 8) (rateRefused rate) (cutoffR
     go false false true h = absurd (none 1 h)
     go false false false h = refl
 
-validate-params-requires : tie.Need-validate-params-requires
-validate-params-requires c κs = search needs
-
 returns : tie.Need-returns
 unfolding validateChebyshev
 returns c = let a = c .before .before .args in
     let v = c .before .validate-params in
     v .ensures ∙ drew (a .cutoff) (a .sample-rate) (a .order) _ (λ e. c .if1 .taken (v .ensures ∙ e))
-
-not-positive-requires : tie.Need-not-positive-requires
-not-positive-requires c κs = search needs
 
 returns-2 : tie.Need-returns-2
 unfolding validateChebyshev
@@ -65,4 +59,4 @@ returns-3 c = let d = c .before .before in
 
 pub validate-chebyshev-spec : {M : Type 1} → statement M
 validate-chebyshev-spec =
-    tie.close (tie.spec validate-params-requires returns not-positive-requires returns-2 returns-3)
+    tie.close (tie.spec (λ c κs. search needs) returns (λ c κs. search needs) returns-2 returns-3)

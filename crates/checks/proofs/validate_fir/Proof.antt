@@ -5,15 +5,9 @@ use borrow.Author.Needs.{needs}
 use Rattle.checks.proofs.validate_fir.Statement.{statement}
 use Rattle.checks.proofs.validate_fir.Tie as tie
 
-order-refused-requires : tie.Need-order-refused-requires
-order-refused-requires c κs = search needs
-
 returns : tie.Need-returns
 unfolding validateFir
 returns c = rw (sym (c .before .order-refused .ensures) ∙ c .if1 .taken)
-
-cutoff-refused-requires : tie.Need-cutoff-refused-requires
-cutoff-refused-requires c κs = search needs
 
 returns-2 : tie.Need-returns-2
 unfolding validateFir
@@ -27,4 +21,4 @@ returns-3 c = let d = c .before .before in
 
 pub validate-fir-spec : {M : Type 1} → statement M
 validate-fir-spec =
-    tie.close (tie.spec order-refused-requires returns cutoff-refused-requires returns-2 returns-3)
+    tie.close (tie.spec (λ c κs. search needs) returns (λ c κs. search needs) returns-2 returns-3)

@@ -5,23 +5,14 @@ use borrow.Author.Needs.{needs}
 use Rattle.checks.proofs.validate_params.Statement.{statement}
 use Rattle.checks.proofs.validate_params.Tie as tie
 
-order-refused-requires : tie.Need-order-refused-requires
-order-refused-requires c κs = search needs
-
 returns : tie.Need-returns
 unfolding validateParams
 returns c = rw (sym (c .before .order-refused .ensures) ∙ c .if1 .taken)
-
-not-positive-requires : tie.Need-not-positive-requires
-not-positive-requires c κs = search needs
 
 returns-2 : tie.Need-returns-2
 unfolding validateParams
 returns-2 c = let d = c .before .before in
     rw (sym (d .before .order-refused .ensures) ∙ d .if1 .left, sym (c .before .not-positive .ensures) ∙ c .if2 .taken)
-
-cutoff-refused-requires : tie.Need-cutoff-refused-requires
-cutoff-refused-requires c κs = search needs
 
 returns-3 : tie.Need-returns-3
 unfolding validateParams
@@ -39,10 +30,10 @@ pub validate-params-spec : {M : Type 1} → statement M
 validate-params-spec =
     tie.close
     (tie.spec
-    order-refused-requires
+    (λ c κs. search needs)
     returns
-    not-positive-requires
+    (λ c κs. search needs)
     returns-2
-    cutoff-refused-requires
+    (λ c κs. search needs)
     returns-3
     returns-4)

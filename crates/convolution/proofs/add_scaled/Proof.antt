@@ -17,30 +17,6 @@ abbrev μ-loop : tie.MeasureT-loop
 loop-holds : tie.Need-loop-holds Inv-loop μ-loop
 loop-holds c = scale-start binary64 _ _ _ _
 
-mul-sums : tie.Need-mul-sums Inv-loop μ-loop
-mul-sums c = search needs
-
-slice-read-sums : tie.Need-slice-read-sums Inv-loop μ-loop
-slice-read-sums c = search needs
-
-add-sums : tie.Need-add-sums Inv-loop μ-loop
-add-sums c = search needs
-
-mul-sums-2 : tie.Need-mul-sums-2 Inv-loop μ-loop
-mul-sums-2 c = search needs
-
-shared-slice-read-sums : tie.Need-shared-slice-read-sums Inv-loop μ-loop
-shared-slice-read-sums c = search needs
-
-mul-sums-3 : tie.Need-mul-sums-3 Inv-loop μ-loop
-mul-sums-3 c = search needs
-
-slice-write-sums : tie.Need-slice-write-sums Inv-loop μ-loop
-slice-write-sums c = search needs
-
-add-j : tie.Need-add-j Inv-loop μ-loop
-add-j c = search needs
-
 loop-less : tie.Need-loop-less Inv-loop μ-loop
 loop-less c = omega (arith, c .before .before .before .loop .inv .same, c .before .before .loop-test .taken)
 
@@ -60,14 +36,14 @@ add-scaled-spec =
     Inv-loop
     μ-loop
     loop-holds
-    mul-sums
-    slice-read-sums
-    add-sums
-    mul-sums-2
-    shared-slice-read-sums
-    mul-sums-3
-    slice-write-sums
-    add-j
+    (λ c. search needs)
+    (λ c. search needs)
+    (λ c. search needs)
+    (λ c. search needs)
+    (λ c. search needs)
+    (λ c. search needs)
+    (λ c. search needs)
+    (λ c. search needs)
     loop-less
     loop-again
     same-length

@@ -14,14 +14,8 @@ returns c = no-samples-before binary64 _ _ _ _ _ _ _ (c .if1 .taken)
 returns-2 : tie.Need-returns-2
 returns-2 c = no-taps binary64 _ _ _ _ _ _ _ (c .if2 .taken)
 
-within-requires : tie.Need-within-requires
-within-requires c κs = search needs
-
 returns-3 : tie.Need-returns-3
 returns-3 c = no-samples binary64 _ _ _ _ _ _ _ (sym (not-true _ (c .if3 .taken)) ∙ c .before .within .ensures)
-
-within-requires-2 : tie.Need-within-requires-2
-within-requires-2 c κs = search needs
 
 returns-4 : tie.Need-returns-4
 returns-4 c = no-places binary64 _ _ _ _ _ _ _ (sym (not-true _ (c .if4 .taken)) ∙ c .before .within2 .ensures)
@@ -31,9 +25,6 @@ outputs-requires c κs = let e = c .before .before .before in
     let xs = leb-true _ _ (sym (e .before .within .ensures) ∙ not-false _ (e .if3 .left)) in
     let os = leb-true _ _ (sym (c .before .before .within2 .ensures) ∙ not-false _ (c .before .if4 .left)) in
     (omega (arith, e .before .before .before .if1 .left), e .before .before .if2 .left, xs, os)
-
-same-length : tie.Need-same-length
-same-length c = search needs
 
 returns-5 : tie.Need-returns-5
 returns-5 c = let a = c .before .before .before in
@@ -46,10 +37,10 @@ convolve-spec =
     (tie.spec
     returns
     returns-2
-    within-requires
+    (λ c κs. search needs)
     returns-3
-    within-requires-2
+    (λ c κs. search needs)
     returns-4
     outputs-requires
-    same-length
+    (λ c. search needs)
     returns-5)

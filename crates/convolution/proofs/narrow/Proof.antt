@@ -16,26 +16,11 @@ abbrev μ-loop : tie.MeasureT-loop
 loop-holds : tie.Need-loop-holds Inv-loop μ-loop
 loop-holds c = out-start binary64 _ _ _ _ _ _ _
 
-add-one : tie.Need-add-one Inv-loop μ-loop
-add-one c = search needs
-
 one-requires : tie.Need-one-requires Inv-loop μ-loop
 one-requires c κs = let p = c .before .before .before .before .before .pre in (omega (arith, p .0), p .1, omega (arith, p .2))
 
-add-output : tie.Need-add-output Inv-loop μ-loop
-add-output c = search needs
-
-mul-output : tie.Need-mul-output Inv-loop μ-loop
-mul-output c = search needs
-
 slice-write-output : tie.Need-slice-write-output Inv-loop μ-loop
 slice-write-output c = omega (arith, c .before .before .loop .inv .same, c .before .before .before .before .before .before .pre)
-
-add-j : tie.Need-add-j Inv-loop μ-loop
-add-j c = search needs
-
-loop-less : tie.Need-loop-less Inv-loop μ-loop
-loop-less c = search needs
 
 loop-again : tie.Need-loop-again Inv-loop μ-loop
 loop-again c = let a = c .before .before in out-one binary64 _ _ _ _ _ _ _ (c .before .loop-test .taken) (a .before .before .before .before .pre .3) (c .one .ensures) (a .loop .inv)
@@ -53,13 +38,13 @@ narrow-spec =
     Inv-loop
     μ-loop
     loop-holds
-    add-one
+    (λ c. search needs)
     one-requires
-    add-output
-    mul-output
+    (λ c. search needs)
+    (λ c. search needs)
     slice-write-output
-    add-j
-    loop-less
+    (λ c. search needs)
+    (λ c. search needs)
     loop-again
     same-length
     returns)

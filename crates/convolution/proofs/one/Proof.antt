@@ -19,27 +19,6 @@ loop-holds : tie.Need-loop-holds Inv-loop μ-loop
 unfolding sumAt ofBits
 loop-holds c = (omega arith, refl)
 
-mul-sum : tie.Need-mul-sum Inv-loop μ-loop
-mul-sum c = search needs
-
-shared-slice-read-sum : tie.Need-shared-slice-read-sum Inv-loop μ-loop
-shared-slice-read-sum c = omega arith
-
-sub-sum : tie.Need-sub-sum Inv-loop μ-loop
-sub-sum c = omega arith
-
-mul-sum-2 : tie.Need-mul-sum-2 Inv-loop μ-loop
-mul-sum-2 c = search needs
-
-shared-slice-read-sum-2 : tie.Need-shared-slice-read-sum-2 Inv-loop μ-loop
-shared-slice-read-sum-2 c = omega arith
-
-add-i : tie.Need-add-i Inv-loop μ-loop
-add-i c = search needs
-
-loop-less : tie.Need-loop-less Inv-loop μ-loop
-loop-less c = search needs
-
 loop-again : tie.Need-loop-again Inv-loop μ-loop
 loop-again c = (omega arith, one-turn binary64 _ _ _ _ (c .before .before .before .loop .inv .1))
 
@@ -53,12 +32,12 @@ one-spec =
     Inv-loop
     μ-loop
     loop-holds
-    mul-sum
-    shared-slice-read-sum
-    sub-sum
-    mul-sum-2
-    shared-slice-read-sum-2
-    add-i
-    loop-less
+    (λ c. search needs)
+    (λ c. omega arith)
+    (λ c. omega arith)
+    (λ c. search needs)
+    (λ c. omega arith)
+    (λ c. search needs)
+    (λ c. search needs)
     loop-again
     returns)

@@ -16,27 +16,6 @@ abbrev μ-loop : tie.MeasureT-loop
 loop-holds : tie.Need-loop-holds Inv-loop μ-loop
 loop-holds c = put-start _ _ _
 
-mul-output : tie.Need-mul-output Inv-loop μ-loop
-mul-output c = search needs
-
-shared-slice-read-output : tie.Need-shared-slice-read-output Inv-loop μ-loop
-shared-slice-read-output c = search needs
-
-add-output : tie.Need-add-output Inv-loop μ-loop
-add-output c = omega arith
-
-mul-output-2 : tie.Need-mul-output-2 Inv-loop μ-loop
-mul-output-2 c = search needs
-
-slice-write-output : tie.Need-slice-write-output Inv-loop μ-loop
-slice-write-output c = omega arith
-
-add-j : tie.Need-add-j Inv-loop μ-loop
-add-j c = search needs
-
-loop-less : tie.Need-loop-less Inv-loop μ-loop
-loop-less c = search needs
-
 loop-again : tie.Need-loop-again Inv-loop μ-loop
 loop-again c = put-turn _ _ (c .before .loop-test .taken) (c .before .before .before .pre) (c .before .before .loop .inv)
 
@@ -53,13 +32,13 @@ put-spec =
     Inv-loop
     μ-loop
     loop-holds
-    mul-output
-    shared-slice-read-output
-    add-output
-    mul-output-2
-    slice-write-output
-    add-j
-    loop-less
+    (λ c. search needs)
+    (λ c. search needs)
+    (λ c. omega arith)
+    (λ c. search needs)
+    (λ c. omega arith)
+    (λ c. search needs)
+    (λ c. search needs)
     loop-again
     same-length
     returns)

@@ -19,26 +19,11 @@ loop-holds : tie.Need-loop-holds Inv-loop μ-loop
 unfolding sumsFrom sumAt ofBits
 loop-holds c = (omega arith, refl)
 
-sub-k : tie.Need-sub-k Inv-loop μ-loop
-sub-k c = search needs
-
-mul-t : tie.Need-mul-t Inv-loop μ-loop
-mul-t c = search needs
-
-shared-slice-read-t : tie.Need-shared-slice-read-t Inv-loop μ-loop
-shared-slice-read-t c = search needs
-
 slice-aggregate-add-scaled : tie.Need-slice-aggregate-add-scaled Inv-loop μ-loop
 slice-aggregate-add-scaled c = sym (sums-length binary64 _ _ _ _ 16 (c .before .before .before .loop .inv .1))
 
 add-scaled-requires : tie.Need-add-scaled-requires Inv-loop μ-loop
 add-scaled-requires c κs = let a = c .before .before .before in omega (arith, sums-length binary64 _ _ _ _ 16 (a .loop .inv .1), a .before .before .before .pre)
-
-add-i : tie.Need-add-i Inv-loop μ-loop
-add-i c = search needs
-
-loop-less : tie.Need-loop-less Inv-loop μ-loop
-loop-less c = search needs
 
 loop-again : tie.Need-loop-again Inv-loop μ-loop
 loop-again c = let a = c .before .before .before .before .before in
@@ -54,12 +39,12 @@ sixteen-spec =
     Inv-loop
     μ-loop
     loop-holds
-    sub-k
-    mul-t
-    shared-slice-read-t
+    (λ c. search needs)
+    (λ c. search needs)
+    (λ c. search needs)
     slice-aggregate-add-scaled
     add-scaled-requires
-    add-i
-    loop-less
+    (λ c. search needs)
+    (λ c. search needs)
     loop-again
     returns)

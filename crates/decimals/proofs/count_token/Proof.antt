@@ -4,9 +4,6 @@ use borrow.Author.Needs.{needs}
 use Rattle.decimals.proofs.count_token.Statement.{statement}
 use Rattle.decimals.proofs.count_token.Tie as tie
 
-run-of-requires : tie.Need-run-of-requires
-run-of-requires c κs = search needs
-
 returns : tie.Need-returns
 returns c = count-letters _ (c .before .run-of .ensures) (c .if1 .taken)
 
@@ -16,13 +13,10 @@ returns-2 c = count-none _ (c .if2 .taken)
 returns-3 : tie.Need-returns-3
 returns-3 c = count-many _ (c .if3 .taken)
 
-decimal-after-requires : tie.Need-decimal-after-requires
-decimal-after-requires c κs = search needs
-
 returns-4 : tie.Need-returns-4
 returns-4 c = let e = c .before .before .before in count-is _ (e .before .run-of .ensures) (e .if1 .left) (c .before .before .if2 .left) (c .before .if3 .left) (c .decimal-after .ensures)
 
 pub count-token-spec : {M : Type 1} → statement M
 count-token-spec =
     tie.close
-    (tie.spec run-of-requires returns returns-2 returns-3 decimal-after-requires returns-4)
+    (tie.spec (λ c κs. search needs) returns returns-2 returns-3 (λ c κs. search needs) returns-4)

@@ -12,9 +12,6 @@ use Rattle.decimals.proofs.decimal.Tie as tie
 returns : tie.Need-returns
 returns c = decimal-none _ _ (c .if1 .taken)
 
-decimal-after-requires : tie.Need-decimal-after-requires
-decimal-after-requires c κs = search needs
-
 decimal-after-requires-2 : tie.Need-decimal-after-requires-2
 decimal-after-requires-2 c κs = omega (arith, c .decimal-after .ensures)
 
@@ -28,9 +25,6 @@ int-to-float-x : tie.Need-int-to-float-x
 unfolding inFloat
 int-to-float-x c = le→leb (c .before .before .before .decimal-after2 .result) (2 ^ 53) (omega (arith, c .before .before .if2 .left))
 
-power-of-ten-requires : tie.Need-power-of-ten-requires
-power-of-ten-requires c κs = search needs
-
 returns-4 : tie.Need-returns-4
 returns-4 c = let e = c .before .before in
     let a = e .before .before in
@@ -41,10 +35,10 @@ decimal-spec =
     tie.close
     (tie.spec
     returns
-    decimal-after-requires
+    (λ c κs. search needs)
     decimal-after-requires-2
     returns-2
     returns-3
     int-to-float-x
-    power-of-ten-requires
+    (λ c κs. search needs)
     returns-4)

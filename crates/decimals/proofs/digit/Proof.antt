@@ -7,40 +7,22 @@ use borrow.Author.Needs.{needs}
 use Rattle.decimals.proofs.digit.Statement.{statement}
 use Rattle.decimals.proofs.digit.Tie as tie
 
-between-requires : tie.Need-between-requires
-between-requires c κs = search needs
-
 sub-result : tie.Need-sub-result
 sub-result c = at-least 48 57 _ (sym (c .before .between .ensures) ∙ c .if1 .taken)
-
-cast-result : tie.Need-cast-result
-cast-result c = search needs
 
 returns : tie.Need-returns
 unfolding digit
 returns c = rw (← c .before .between .ensures, c .if1 .taken)
 
-between-requires-2 : tie.Need-between-requires-2
-between-requires-2 c κs = search needs
-
 sub-result-2 : tie.Need-sub-result-2
 sub-result-2 c = omega (arith, at-least 65 70 _ (sym (c .before .between2 .ensures) ∙ c .if2 .taken))
-
-cast-result-2 : tie.Need-cast-result-2
-cast-result-2 c = search needs
 
 returns-2 : tie.Need-returns-2
 unfolding digit
 returns-2 c = let e = c .before .before in rw (← e .before .between .ensures, e .if1 .left, ← c .before .between2 .ensures, c .if2 .taken)
 
-between-requires-3 : tie.Need-between-requires-3
-between-requires-3 c κs = search needs
-
 sub-result-3 : tie.Need-sub-result-3
 sub-result-3 c = omega (arith, at-least 97 102 _ (sym (c .before .between3 .ensures) ∙ c .if3 .taken))
-
-cast-result-3 : tie.Need-cast-result-3
-cast-result-3 c = search needs
 
 returns-3 : tie.Need-returns-3
 unfolding digit
@@ -54,16 +36,16 @@ pub digit-spec : {M : Type 1} → statement M
 digit-spec =
     tie.close
     (tie.spec
-    between-requires
+    (λ c κs. search needs)
     sub-result
-    cast-result
+    (λ c. search needs)
     returns
-    between-requires-2
+    (λ c κs. search needs)
     sub-result-2
-    cast-result-2
+    (λ c. search needs)
     returns-2
-    between-requires-3
+    (λ c κs. search needs)
     sub-result-3
-    cast-result-3
+    (λ c. search needs)
     returns-3
     returns-4)

@@ -6,42 +6,6 @@ use borrow.Author.Needs.{needs}
 use Rattle.exports.proofs.recorder_elementary.Statement.{statement}
 use Rattle.exports.proofs.recorder_elementary.Tie as tie
 
-sqrt-requires : tie.Need-sqrt-requires
-sqrt-requires c κs = search needs
-
-abs-requires : tie.Need-abs-requires
-abs-requires c κs = search needs
-
-max-zero-requires : tie.Need-max-zero-requires
-max-zero-requires c κs = search needs
-
-sin-requires : tie.Need-sin-requires
-sin-requires c κs = search needs
-
-cos-requires : tie.Need-cos-requires
-cos-requires c κs = search needs
-
-tan-requires : tie.Need-tan-requires
-tan-requires c κs = search needs
-
-exp-requires : tie.Need-exp-requires
-exp-requires c κs = search needs
-
-pow10-requires : tie.Need-pow10-requires
-pow10-requires c κs = search needs
-
-ln-requires : tie.Need-ln-requires
-ln-requires c κs = search needs
-
-sinh-requires : tie.Need-sinh-requires
-sinh-requires c κs = search needs
-
-cosh-requires : tie.Need-cosh-requires
-cosh-requires c κs = search needs
-
-arcsinh-requires : tie.Need-arcsinh-requires
-arcsinh-requires c κs = search needs
-
 returns : tie.Need-returns
 unfolding numbered
 returns c = rw (c .before .match .keys1, c .sqrt .ensures .0)
@@ -98,18 +62,18 @@ pub recorder-elementary-spec : {M : Type 1} → statement M
 recorder-elementary-spec =
     tie.close
     (tie.spec
-    sqrt-requires
-    abs-requires
-    max-zero-requires
-    sin-requires
-    cos-requires
-    tan-requires
-    exp-requires
-    pow10-requires
-    ln-requires
-    sinh-requires
-    cosh-requires
-    arcsinh-requires
+    (λ c κs. search needs)
+    (λ c κs. search needs)
+    (λ c κs. search needs)
+    (λ c κs. search needs)
+    (λ c κs. search needs)
+    (λ c κs. search needs)
+    (λ c κs. search needs)
+    (λ c κs. search needs)
+    (λ c κs. search needs)
+    (λ c κs. search needs)
+    (λ c κs. search needs)
+    (λ c κs. search needs)
     returns
     returns-2
     returns-3

@@ -12,35 +12,11 @@ use Rattle.handover.proofs.hand_out.Tie as tie
 places : (e : tie.Else1) → cascadePlaces (e .before .before .before .before .before .before .args .numbers .now) (e .before .before .before .before .before .before .args .counts .now) ≡ true
 places e = sym (e .before .has-places .ensures) ∙ not-false _ (e .if1 .left)
 
-has-places-requires : tie.Need-has-places-requires
-has-places-requires c κs = search needs
-
-same-length : tie.Need-same-length
-same-length c = search needs
-
-same-length-2 : tie.Need-same-length-2
-same-length-2 c = search needs
-
 returns : tie.Need-returns
 returns c = design-unfit _ _ _ (sym (c .before .has-places .ensures) ∙ not-true _ (c .if1 .taken))
 
-same-length-3 : tie.Need-same-length-3
-same-length-3 c = search needs
-
-same-length-4 : tie.Need-same-length-4
-same-length-4 c = search needs
-
 returns-2 : tie.Need-returns-2
 returns-2 c = design-refused (designView (c .before .before .before .before .before .before .before .args .d)) _ _ (places (c .before)) (c .if2 .taken)
-
-write-requires : tie.Need-write-requires
-write-requires c κs = search needs
-
-same-length-5 : tie.Need-same-length-5
-same-length-5 c = search needs
-
-same-length-6 : tie.Need-same-length-6
-same-length-6 c = search needs
 
 returns-3 : tie.Need-returns-3
 returns-3 c = let w = c .before .before .before .before .write .ensures in
@@ -51,14 +27,14 @@ pub hand-out-spec : {M : Type 1} → statement M
 hand-out-spec =
     tie.close
     (tie.spec
-    has-places-requires
-    same-length
-    same-length-2
+    (λ c κs. search needs)
+    (λ c. search needs)
+    (λ c. search needs)
     returns
-    same-length-3
-    same-length-4
+    (λ c. search needs)
+    (λ c. search needs)
     returns-2
-    write-requires
-    same-length-5
-    same-length-6
+    (λ c κs. search needs)
+    (λ c. search needs)
+    (λ c. search needs)
     returns-3)

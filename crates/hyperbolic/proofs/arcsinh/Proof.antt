@@ -4,15 +4,9 @@ use borrow.Author.Needs.{needs}
 use Rattle.hyperbolic.proofs.arcsinh.Statement.{statement}
 use Rattle.hyperbolic.proofs.arcsinh.Tie as tie
 
-sqrt-requires : tie.Need-sqrt-requires
-sqrt-requires c κs = search needs
-
-ln-requires : tie.Need-ln-requires
-ln-requires c κs = search needs
-
 returns : tie.Need-returns
 unfolding arcsinhOf
 returns c = rw (c .ln .ensures, c .before .sqrt .ensures .0)
 
 pub arcsinh-spec : {M : Type 1} → statement M
-arcsinh-spec = tie.close (tie.spec sqrt-requires ln-requires returns)
+arcsinh-spec = tie.close (tie.spec (λ c κs. search needs) (λ c κs. search needs) returns)

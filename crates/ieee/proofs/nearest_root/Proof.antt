@@ -13,26 +13,8 @@ Inv-loop m q₀ y₀ w₀ q y w = ((k : ℕ) × (w ≡ 2 ^ k)) × (y * w + q * q
 abbrev μ-loop : tie.MeasureT-loop
 μ-loop m q₀ y₀ w₀ q y w = w
 
-sub-y : tie.Need-sub-y Inv-loop μ-loop
-sub-y c = omega arith
-
 loop-holds : tie.Need-loop-holds Inv-loop μ-loop
 loop-holds c = ((52, refl), omega arith, omega arith, omega arith, omega arith)
-
-add-y : tie.Need-add-y Inv-loop μ-loop
-add-y c = omega arith
-
-add-t : tie.Need-add-t Inv-loop μ-loop
-add-t c = omega arith
-
-add-t-2 : tie.Need-add-t-2 Inv-loop μ-loop
-add-t-2 c = omega arith
-
-add-q : tie.Need-add-q Inv-loop μ-loop
-add-q c = omega arith
-
-loop-less : tie.Need-loop-less Inv-loop μ-loop
-loop-less c = omega arith
 
 loop-again : tie.Need-loop-again Inv-loop μ-loop
 loop-again c =
@@ -40,17 +22,11 @@ loop-again c =
     let h = halved (l .w) (l .inv .0 .0) (l .inv .0 .1) (c .before .loop-test .taken) in
     (h .0, taken _ (l .q) (l .y) (l .w) (l .w / 2) (h .1) (l .inv .1) (omega arith), omega arith, omega arith, omega arith)
 
-loop-less-2 : tie.Need-loop-less-2 Inv-loop μ-loop
-loop-less-2 c = omega arith
-
 loop-again-2 : tie.Need-loop-again-2 Inv-loop μ-loop
 loop-again-2 c =
     let l = c .before .before .loop in
     let h = halved (l .w) (l .inv .0 .0) (l .inv .0 .1) (c .before .loop-test .taken) in
     (h .0, passed _ (l .q) (l .y) (l .w) (l .w / 2) (h .1) (l .inv .1), omega arith, omega arith, omega arith)
-
-add-result : tie.Need-add-result Inv-loop μ-loop
-add-result c = omega arith
 
 returns : tie.Need-returns Inv-loop μ-loop
 returns c =
@@ -75,16 +51,16 @@ nearest-root-spec =
     (tie.spec
     Inv-loop
     μ-loop
-    sub-y
+    (λ c. omega arith)
     loop-holds
-    add-y
-    add-t
-    add-t-2
-    add-q
-    loop-less
+    (λ c. omega arith)
+    (λ c. omega arith)
+    (λ c. omega arith)
+    (λ c. omega arith)
+    (λ c. omega arith)
     loop-again
-    loop-less-2
+    (λ c. omega arith)
     loop-again-2
-    add-result
+    (λ c. omega arith)
     returns
     returns-2)

@@ -13,23 +13,11 @@ Inv-loop b m₀ e₀ m e = (m * 2 ^ e ≡ b * 2 ^ 52) × (0 < b) × (b < 2 ^ 52)
 abbrev μ-loop : tie.MeasureT-loop
 μ-loop b m₀ e₀ m e = e
 
-add-root-of-digits : tie.Need-add-root-of-digits Inv-loop μ-loop
-add-root-of-digits c = omega arith
-
-add-root-of-digits-2 : tie.Need-add-root-of-digits-2 Inv-loop μ-loop
-add-root-of-digits-2 c = omega arith
-
-root-of-digits-requires : tie.Need-root-of-digits-requires Inv-loop μ-loop
-root-of-digits-requires c κs = omega arith
-
 returns : tie.Need-returns Inv-loop μ-loop
 returns c = (λ (h : c .before .before .args .b < 2 ^ 52). absurd (omega arith), λ _. c .root-of-digits .ensures)
 
 loop-holds : tie.Need-loop-holds Inv-loop μ-loop
 loop-holds c = (refl, omega arith, omega arith, omega arith, omega arith, omega arith)
-
-add-m : tie.Need-add-m Inv-loop μ-loop
-add-m c = omega arith
 
 sub-e : tie.Need-sub-e Inv-loop μ-loop
 sub-e c = some-left (c .before .loop .m) (c .before .before .before .args .b) (c .before .loop .e) (c .before .loop .inv .0) (c .before .loop .inv .1) (c .loop-test .taken)
@@ -40,9 +28,6 @@ loop-less c = omega (arith, some-left (c .before .loop .m) (c .before .before .b
 loop-again : tie.Need-loop-again Inv-loop μ-loop
 loop-again c = (one-up (c .before .loop .m) (c .before .before .before .args .b) (c .before .loop .e) (c .before .loop .inv .0) (some-left (c .before .loop .m) (c .before .before .before .args .b) (c .before .loop .e) (c .before .loop .inv .0) (c .before .loop .inv .1) (c .loop-test .taken)), omega arith, omega arith, omega arith, omega arith, omega arith)
 
-root-of-digits-requires-2 : tie.Need-root-of-digits-requires-2 Inv-loop μ-loop
-root-of-digits-requires-2 c κs = omega arith
-
 returns-2 : tie.Need-returns-2 Inv-loop μ-loop
 returns-2 c = (λ _. subst (λ (n : ℕ). Rooted n (c .root-of-digits2 .result)) (c .before .before .loop .inv .0) (c .root-of-digits2 .ensures), λ (h : (2 ^ 52) ≤ c .before .before .before .before .args .b). absurd (omega (arith, c .before .before .loop .inv .2)))
 
@@ -52,14 +37,14 @@ root-bits-spec =
     (tie.spec
     Inv-loop
     μ-loop
-    add-root-of-digits
-    add-root-of-digits-2
-    root-of-digits-requires
+    (λ c. omega arith)
+    (λ c. omega arith)
+    (λ c κs. omega arith)
     returns
     loop-holds
-    add-m
+    (λ c. omega arith)
     sub-e
     loop-less
     loop-again
-    root-of-digits-requires-2
+    (λ c κs. omega arith)
     returns-2)

@@ -10,9 +10,6 @@ use borrow.Author.Needs.{needs}
 use Rattle.layout.proofs.fits.Statement.{statement}
 use Rattle.layout.proofs.fits.Tie as tie
 
-has-places-requires : tie.Need-has-places-requires
-has-places-requires c κs = search needs
-
 returns : tie.Need-returns
 unfolding cascadeFits
 returns c = simp (sym (c .before .has-places .ensures) ∙ not-true _ (c .if1 .taken))
@@ -39,7 +36,7 @@ pub fits-spec : {M : Type 1} → statement M
 fits-spec =
     tie.close
     (tie.spec
-    has-places-requires
+    (λ c κs. search needs)
     returns
     shared-slice-read-if2
     returns-2

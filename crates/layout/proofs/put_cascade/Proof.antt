@@ -8,27 +8,6 @@ use borrow.Author.Needs.{needs}
 use Rattle.layout.proofs.put_cascade.Statement.{statement}
 use Rattle.layout.proofs.put_cascade.Tie as tie
 
-put-sections-requires : tie.Need-put-sections-requires
-put-sections-requires c κs = search needs
-
-put-first-requires : tie.Need-put-first-requires
-put-first-requires c κs = search needs
-
-flag-requires : tie.Need-flag-requires
-flag-requires c κs = search needs
-
-flag-requires-2 : tie.Need-flag-requires-2
-flag-requires-2 c κs = search needs
-
-set-counts-requires : tie.Need-set-counts-requires
-set-counts-requires c κs = search needs
-
-same-length : tie.Need-same-length
-same-length c = search needs
-
-same-length-2 : tie.Need-same-length-2
-same-length-2 c = search needs
-
 returns : tie.Need-returns
 unfolding cascadeNumbers cascadeCounts
 returns c = let s = c .before .before .before .before .before .before .before .before .before .before .before .before .before .before .before .before .before .before in (
@@ -40,11 +19,11 @@ pub put-cascade-spec : {M : Type 1} → statement M
 put-cascade-spec =
     tie.close
     (tie.spec
-    put-sections-requires
-    put-first-requires
-    flag-requires
-    flag-requires-2
-    set-counts-requires
-    same-length
-    same-length-2
+    (λ c κs. search needs)
+    (λ c κs. search needs)
+    (λ c κs. search needs)
+    (λ c κs. search needs)
+    (λ c κs. search needs)
+    (λ c. search needs)
+    (λ c. search needs)
     returns)

@@ -14,16 +14,10 @@ returns c = let a = c .before .before .args in
     let f = ne-eqb (length (a .counts .now)) 3 (c .if1 .taken) in
     (sym f, sym (cond-false (eqb (length (a .counts .now)) 3) (a .n0 ∷ a .n1 ∷ a .n2 ∷ []) (a .counts .now) f))
 
-set-counts-requires : tie.Need-set-counts-requires
-set-counts-requires c κs = search needs
-
-same-length : tie.Need-same-length
-same-length c = search needs
-
 returns-2 : tie.Need-returns-2
 returns-2 c = let a = c .before .before .before .before .before .before .args in
     let t = eq-eqb (length (a .counts .now)) 3 (c .before .before .before .before .if1 .left) in
     (sym t, c .before .before .set-counts .ensures ∙ sym (cond-true (eqb (length (a .counts .now)) 3) (a .n0 ∷ a .n1 ∷ a .n2 ∷ []) (a .counts .now) t))
 
 pub put-counts-spec : {M : Type 1} → statement M
-put-counts-spec = tie.close (tie.spec returns set-counts-requires same-length returns-2)
+put-counts-spec = tie.close (tie.spec returns (λ c κs. search needs) (λ c. search needs) returns-2)

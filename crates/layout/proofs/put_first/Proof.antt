@@ -5,21 +5,6 @@ use borrow.Author.Needs.{needs}
 use Rattle.layout.proofs.put_first.Statement.{statement}
 use Rattle.layout.proofs.put_first.Tie as tie
 
-slice-write-numbers : tie.Need-slice-write-numbers
-slice-write-numbers c = search needs
-
-slice-write-numbers-2 : tie.Need-slice-write-numbers-2
-slice-write-numbers-2 c = search needs
-
-slice-write-numbers-3 : tie.Need-slice-write-numbers-3
-slice-write-numbers-3 c = search needs
-
-slice-write-numbers-4 : tie.Need-slice-write-numbers-4
-slice-write-numbers-4 c = search needs
-
-same-length : tie.Need-same-length
-same-length c = search needs
-
 returns : tie.Need-returns
 returns c = set-four _ 28 _ _ _ _ (omega (arith, c .pre))
 
@@ -27,9 +12,9 @@ pub put-first-spec : {M : Type 1} → statement M
 put-first-spec =
     tie.close
     (tie.spec
-    slice-write-numbers
-    slice-write-numbers-2
-    slice-write-numbers-3
-    slice-write-numbers-4
-    same-length
+    (λ c. search needs)
+    (λ c. search needs)
+    (λ c. search needs)
+    (λ c. search needs)
+    (λ c. search needs)
     returns)

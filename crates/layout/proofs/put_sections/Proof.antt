@@ -7,33 +7,6 @@ use borrow.Author.Needs.{needs}
 use Rattle.layout.proofs.put_sections.Statement.{statement}
 use Rattle.layout.proofs.put_sections.Tie as tie
 
-array-copy-out-put-section : tie.Need-array-copy-out-put-section
-array-copy-out-put-section c = search needs
-
-put-section-requires : tie.Need-put-section-requires
-put-section-requires c κs = search needs
-
-array-copy-out-put-section-2 : tie.Need-array-copy-out-put-section-2
-array-copy-out-put-section-2 c = search needs
-
-put-section-requires-2 : tie.Need-put-section-requires-2
-put-section-requires-2 c κs = search needs
-
-array-copy-out-put-section-3 : tie.Need-array-copy-out-put-section-3
-array-copy-out-put-section-3 c = search needs
-
-put-section-requires-3 : tie.Need-put-section-requires-3
-put-section-requires-3 c κs = search needs
-
-array-copy-out-put-section-4 : tie.Need-array-copy-out-put-section-4
-array-copy-out-put-section-4 c = search needs
-
-put-section-requires-4 : tie.Need-put-section-requires-4
-put-section-requires-4 c κs = search needs
-
-same-length : tie.Need-same-length
-same-length c = search needs
-
 returns : tie.Need-returns
 returns c = let s = c .before .before .before .before .before .before .before .before .before .before .before .before .before .before .before .before .before .before .before .before .before in
     let four : length (s .args .t1) ≡ 4 = omega (arith, s .good .0 .1 .0 .1) in
@@ -43,13 +16,13 @@ pub put-sections-spec : {M : Type 1} → statement M
 put-sections-spec =
     tie.close
     (tie.spec
-    array-copy-out-put-section
-    put-section-requires
-    array-copy-out-put-section-2
-    put-section-requires-2
-    array-copy-out-put-section-3
-    put-section-requires-3
-    array-copy-out-put-section-4
-    put-section-requires-4
-    same-length
+    (λ c. search needs)
+    (λ c κs. search needs)
+    (λ c. search needs)
+    (λ c κs. search needs)
+    (λ c. search needs)
+    (λ c κs. search needs)
+    (λ c. search needs)
+    (λ c κs. search needs)
+    (λ c. search needs)
     returns)

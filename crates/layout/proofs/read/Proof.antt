@@ -12,12 +12,6 @@ use Rattle.layout.proofs.read.Tie as tie
 places : (e : tie.Else1) → cascadePlaces (e .before .before .before .before .args .numbers .now) (e .before .before .before .before .args .counts .now) ≡ true
 places e = sym (e .before .has-places .ensures) ∙ not-false _ (e .if1 .left)
 
-has-places-requires : tie.Need-has-places-requires
-has-places-requires c κs = search needs
-
-blank-requires : tie.Need-blank-requires
-blank-requires c κs = search needs
-
 returns : tie.Need-returns
 returns c = let a = c .before .before .before .before .before .args in
     let ns = a .numbers .now in
@@ -35,4 +29,4 @@ returns-2 c = let a = c .before .before .before .before .before .args in
 
 pub read-spec : {M : Type 1} → statement M
 read-spec =
-    tie.close (tie.spec has-places-requires blank-requires returns assembled-requires returns-2)
+    tie.close (tie.spec (λ c κs. search needs) (λ c κs. search needs) returns assembled-requires returns-2)

@@ -12,15 +12,6 @@ use Rattle.layout.proofs.write.Tie as tie
 places : (e : tie.Else1) → cascadePlaces (e .before .before .before .before .before .before .args .numbers .now) (e .before .before .before .before .before .before .args .counts .now) ≡ true
 places e = sym (e .before .has-places .ensures) ∙ not-false _ (e .if1 .left)
 
-has-places-requires : tie.Need-has-places-requires
-has-places-requires c κs = search needs
-
-same-length : tie.Need-same-length
-same-length c = search needs
-
-same-length-2 : tie.Need-same-length-2
-same-length-2 c = search needs
-
 returns : tie.Need-returns
 returns c = let a = c .before .before .before .before .before .before .args in
     let ns = a .numbers .now in
@@ -30,12 +21,6 @@ returns c = let a = c .before .before .before .before .before .before .args in
 
 put-cascade-requires : tie.Need-put-cascade-requires
 put-cascade-requires c κs = places-lengths _ _ (places (c .before .before))
-
-same-length-3 : tie.Need-same-length-3
-same-length-3 c = search needs
-
-same-length-4 : tie.Need-same-length-4
-same-length-4 c = search needs
 
 returns-2 : tie.Need-returns-2
 returns-2 c = let a = c .before .before .before .before .before .before .before .before .before .before .before .before .before .args in
@@ -49,11 +34,11 @@ pub write-spec : {M : Type 1} → statement M
 write-spec =
     tie.close
     (tie.spec
-    has-places-requires
-    same-length
-    same-length-2
+    (λ c κs. search needs)
+    (λ c. search needs)
+    (λ c. search needs)
     returns
     put-cascade-requires
-    same-length-3
-    same-length-4
+    (λ c. search needs)
+    (λ c. search needs)
     returns-2)

@@ -10,12 +10,6 @@ use borrow.Author.Needs.{needs}
 use Rattle.logarithm.proofs.difference.Statement.{statement}
 use Rattle.logarithm.proofs.difference.Tie as tie
 
-cast-result : tie.Need-cast-result
-cast-result c = search needs
-
-cast-result-2 : tie.Need-cast-result-2
-cast-result-2 c = search needs
-
 sub-result : tie.Need-sub-result
 sub-result c = subst⁻¹ (SFits w64) (difference-is (c .args .a) (c .args .b) (c .pre .0) (c .pre .1)) (difference-fits (c .args .a) (c .args .b) (c .pre .0) (c .pre .1))
 
@@ -23,4 +17,4 @@ returns : tie.Need-returns
 returns c = ap (λ (z : ℤ). toZ w64 (ofZ w64 z)) (difference-is (c .args .a) (c .args .b) (c .pre .0) (c .pre .1)) ∙ toZ-ofZ w64 (minus (c .args .a) (c .args .b)) (difference-fits (c .args .a) (c .args .b) (c .pre .0) (c .pre .1))
 
 pub difference-spec : {M : Type 1} → statement M
-difference-spec = tie.close (tie.spec cast-result cast-result-2 sub-result returns)
+difference-spec = tie.close (tie.spec (λ c. search needs) (λ c. search needs) sub-result returns)

@@ -21,9 +21,6 @@ mul-q c = record { fits = omega arith }
 add-j : tie.Need-add-j Inv-loop μ-loop
 add-j c = record { fits = omega arith }
 
-loop-less : tie.Need-loop-less Inv-loop μ-loop
-loop-less c = omega arith
-
 loop-again : tie.Need-loop-again Inv-loop μ-loop
 loop-again c = (doubled (c .before .loop .q) (c .before .before .args .t) (c .before .loop .j) (c .before .loop .inv .0), omega arith, omega arith, omega arith)
 
@@ -33,4 +30,4 @@ returns c = let l = c .before .loop in
 
 pub lift-spec : {M : Type 1} → statement M
 lift-spec =
-    tie.close (tie.spec Inv-loop μ-loop loop-holds mul-q add-j loop-less loop-again returns)
+    tie.close (tie.spec Inv-loop μ-loop loop-holds mul-q add-j (λ c. omega arith) loop-again returns)

@@ -31,12 +31,6 @@ split-requires c κs = let d = c .before .before .before in
     let x = d .before .args .x in
     left-positive x (d .if1 .left) (c .before .before .if2 .left) (c .before .if3 .left) (ap (Ieee.eq x) (sym inf-is) ∙ c .if4 .left)
 
-centre-requires : tie.Need-centre-requires
-centre-requires c κs = search needs
-
-ln-main-requires : tie.Need-ln-main-requires
-ln-main-requires c κs = search needs
-
 returns-5 : tie.Need-returns-5
 unfolding lnOf
 returns-5 c = let d = c .before .before .before in
@@ -52,6 +46,6 @@ ln-spec =
     returns-3
     returns-4
     split-requires
-    centre-requires
-    ln-main-requires
+    (λ c κs. search needs)
+    (λ c κs. search needs)
     returns-5)

@@ -7,12 +7,6 @@ use borrow.Author.Needs.{needs}
 use Rattle.logarithm.proofs.ln_main.Statement.{statement}
 use Rattle.logarithm.proofs.ln_main.Tie as tie
 
-nearest-i64-to-f64-requires : tie.Need-nearest-i64-to-f64-requires
-nearest-i64-to-f64-requires c κs = search needs
-
-ln-series-requires : tie.Need-ln-series-requires
-ln-series-requires c κs = search needs
-
 returns : tie.Need-returns
 unfolding lnMain lnFrac
 returns c = let e = c .before .before .before .args .p .e in
@@ -20,4 +14,4 @@ returns c = let e = c .before .before .before .args .p .e in
     rw (c .ln-series .ensures, c .before .nearest-i64-to-f64 .ensures, toZ-ofZ w64 e h)
 
 pub ln-main-spec : {M : Type 1} → statement M
-ln-main-spec = tie.close (tie.spec nearest-i64-to-f64-requires ln-series-requires returns)
+ln-main-spec = tie.close (tie.spec (λ c κs. search needs) (λ c κs. search needs) returns)

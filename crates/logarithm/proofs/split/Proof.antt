@@ -28,21 +28,6 @@ float-to-bits-w c = positive-number (c .args .x) (c .pre)
 lift-requires : tie.Need-lift-requires
 lift-requires c κs = (low-pos (c .before .args .x) (held (c .before)) (c .before .pre) (c .if1 .taken), mod-lt (toBits binary64 (c .before .args .x)) (pow-pos 52))
 
-significand-requires : tie.Need-significand-requires
-significand-requires c κs = search needs
-
-add-difference : tie.Need-add-difference
-add-difference c = search needs
-
-difference-requires : tie.Need-difference-requires
-difference-requires c κs = search needs
-
-add-significand : tie.Need-add-significand
-add-significand c = search needs
-
-significand-requires-2 : tie.Need-significand-requires-2
-significand-requires-2 c κs = search needs
-
 difference-requires-2 : tie.Need-difference-requires-2
 difference-requires-2 c κs = (lt-trans (field-below (c .before .before .args .x) (held (c .before .before)) (c .before .before .pre)) (lit< tt), lit< tt)
 
@@ -68,11 +53,11 @@ split-spec =
     (tie.spec
     float-to-bits-w
     lift-requires
-    significand-requires
-    add-difference
-    difference-requires
-    add-significand
-    significand-requires-2
+    (λ c κs. search needs)
+    (λ c. search needs)
+    (λ c κs. search needs)
+    (λ c. search needs)
+    (λ c κs. search needs)
     difference-requires-2
     returns
     returns-2)

@@ -5,26 +5,11 @@ use borrow.Author.Needs.{needs}
 use Rattle.numbers.proofs.float_token.Statement.{statement}
 use Rattle.numbers.proofs.float_token.Tie as tie
 
-named-requires : tie.Need-named-requires
-named-requires c κs = search needs
-
 returns : tie.Need-returns
 returns c = c .named .ensures ∙ float-length _ (c .before .if1 .taken)
 
-run-of-requires : tie.Need-run-of-requires
-run-of-requires c κs = search needs
-
-named-requires-2 : tie.Need-named-requires-2
-named-requires-2 c κs = search needs
-
 returns-2 : tie.Need-returns-2
 returns-2 c = let e = c .before .before .before in c .named2 .ensures ∙ float-letters _ (e .if1 .left) (c .before .before .run-of .ensures) (c .before .if2 .taken)
-
-hexadecimal-requires : tie.Need-hexadecimal-requires
-hexadecimal-requires c κs = search needs
-
-from-bits-requires : tie.Need-from-bits-requires
-from-bits-requires c κs = search needs
 
 returns-3 : tie.Need-returns-3
 returns-3 c = let e = c .before .before in float-bits _ (e .before .before .if1 .left) (e .before .run-of .ensures) (e .if2 .left) (c .before .hexadecimal .ensures) (c .from-bits .ensures)
@@ -33,11 +18,11 @@ pub float-token-spec : {M : Type 1} → statement M
 float-token-spec =
     tie.close
     (tie.spec
-    named-requires
+    (λ c κs. search needs)
     returns
-    run-of-requires
-    named-requires-2
+    (λ c κs. search needs)
+    (λ c κs. search needs)
     returns-2
-    hexadecimal-requires
-    from-bits-requires
+    (λ c κs. search needs)
+    (λ c κs. search needs)
     returns-3)

@@ -14,26 +14,11 @@ Inv-loop digits value₀ i₀ value i = Reading digits value i
 abbrev μ-loop : tie.MeasureT-loop
 μ-loop digits value₀ i₀ value i = length digits - i
 
-loop-holds : tie.Need-loop-holds Inv-loop μ-loop
-loop-holds c = refl
-
 mul-value : tie.Need-mul-value Inv-loop μ-loop
 mul-value c = omega (arith, hex-fits _ _ _ (c .before .before .before .pre) (c .loop-test .taken) (c .before .loop .inv))
 
-shared-slice-read-digit : tie.Need-shared-slice-read-digit Inv-loop μ-loop
-shared-slice-read-digit c = search needs
-
-digit-requires : tie.Need-digit-requires Inv-loop μ-loop
-digit-requires c κs = search needs
-
 add-value : tie.Need-add-value Inv-loop μ-loop
 add-value c = let e = c .before .before in omega (arith, hex-fits _ _ _ (e .before .before .before .pre) (e .loop-test .taken) (e .before .loop .inv), c .digit .ensures)
-
-add-i : tie.Need-add-i Inv-loop μ-loop
-add-i c = search needs
-
-loop-less : tie.Need-loop-less Inv-loop μ-loop
-loop-less c = search needs
 
 loop-again : tie.Need-loop-again Inv-loop μ-loop
 loop-again c = let e = c .before .before in rw (c .digit .ensures) (hex-turn _ _ _ (e .loop-test .taken) (e .before .loop .inv))
@@ -47,12 +32,12 @@ hexadecimal-spec =
     (tie.spec
     Inv-loop
     μ-loop
-    loop-holds
+    (λ c. refl)
     mul-value
-    shared-slice-read-digit
-    digit-requires
+    (λ c. search needs)
+    (λ c κs. search needs)
     add-value
-    add-i
-    loop-less
+    (λ c. search needs)
+    (λ c. search needs)
     loop-again
     returns)

@@ -5,40 +5,19 @@ use borrow.Author.Needs.{needs}
 use Rattle.numbers.proofs.named.Statement.{statement}
 use Rattle.numbers.proofs.named.Tie as tie
 
-slice-aggregate-same-bytes : tie.Need-slice-aggregate-same-bytes
-slice-aggregate-same-bytes c = search needs
-
-same-bytes-requires : tie.Need-same-bytes-requires
-same-bytes-requires c κs = search needs
-
 returns : tie.Need-returns
 unfolding named div ofBits
 returns c = rw (← c .before .same-bytes .ensures, c .if1 .taken)
 
-slice-aggregate-same-bytes-2 : tie.Need-slice-aggregate-same-bytes-2
-slice-aggregate-same-bytes-2 c = search needs
-
-same-bytes-requires-2 : tie.Need-same-bytes-requires-2
-same-bytes-requires-2 c κs = search needs
-
 returns-2 : tie.Need-returns-2
 unfolding named div ofBits
 returns-2 c = let e = c .before .before .before in rw (← e .before .same-bytes .ensures, e .if1 .left, ← c .before .same-bytes2 .ensures, c .if2 .taken)
-
-slice-aggregate-same-bytes-3 : tie.Need-slice-aggregate-same-bytes-3
-slice-aggregate-same-bytes-3 c = search needs
-
-same-bytes-requires-3 : tie.Need-same-bytes-requires-3
-same-bytes-requires-3 c κs = search needs
 
 returns-3 : tie.Need-returns-3
 unfolding named neg div ofBits
 returns-3 c = let e = c .before .before .before in
     let d = e .before .before .before in
     rw (← d .before .same-bytes .ensures, d .if1 .left, ← e .before .same-bytes2 .ensures, e .if2 .left, ← c .before .same-bytes3 .ensures, c .if3 .taken)
-
-signed-requires : tie.Need-signed-requires
-signed-requires c κs = search needs
 
 returns-4 : tie.Need-returns-4
 unfolding named
@@ -51,14 +30,14 @@ pub named-spec : {M : Type 1} → statement M
 named-spec =
     tie.close
     (tie.spec
-    slice-aggregate-same-bytes
-    same-bytes-requires
+    (λ c. search needs)
+    (λ c κs. search needs)
     returns
-    slice-aggregate-same-bytes-2
-    same-bytes-requires-2
+    (λ c. search needs)
+    (λ c κs. search needs)
     returns-2
-    slice-aggregate-same-bytes-3
-    same-bytes-requires-3
+    (λ c. search needs)
+    (λ c κs. search needs)
     returns-3
-    signed-requires
+    (λ c κs. search needs)
     returns-4)

@@ -4,12 +4,6 @@ use borrow.Author.Needs.{needs}
 use Rattle.numbers.proofs.negated.Statement.{statement}
 use Rattle.numbers.proofs.negated.Tie as tie
 
-enum-known-f : tie.Need-enum-known-f
-enum-known-f c = search needs
-
-enum-told : tie.Need-enum-told
-enum-told c = search needs
-
 returns : tie.Need-returns
 unfolding negated
 returns c = rw (c .before .f .given .1)
@@ -19,4 +13,4 @@ unfolding negated
 returns-2 c = rw (c .enum-told .given .1)
 
 pub negated-spec : {M : Type 1} → statement M
-negated-spec = tie.close (tie.spec enum-known-f enum-told returns returns-2)
+negated-spec = tie.close (tie.spec (λ c. search needs) (λ c. search needs) returns returns-2)

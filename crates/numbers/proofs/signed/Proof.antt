@@ -9,29 +9,8 @@ use Rattle.numbers.proofs.signed.Tie as tie
 returns : tie.Need-returns
 returns c = signed-none _ (c .if1 .taken)
 
-shared-slice-read-if2 : tie.Need-shared-slice-read-if2
-shared-slice-read-if2 c = search needs
-
-sub-unsigned : tie.Need-sub-unsigned
-sub-unsigned c = search needs
-
-part-unsigned-start : tie.Need-part-unsigned-start
-part-unsigned-start c = search needs
-
-part-unsigned-end : tie.Need-part-unsigned-end
-part-unsigned-end c = search needs
-
-unsigned-requires : tie.Need-unsigned-requires
-unsigned-requires c κs = search needs
-
-negated-requires : tie.Need-negated-requires
-negated-requires c κs = search needs
-
 returns-2 : tie.Need-returns-2
 returns-2 c = let t = c .before .before .before in c .negated .ensures ∙ ap negated (c .before .unsigned .ensures) ∙ signed-minus _ (t .before .before .if1 .left) (t .if2 .taken)
-
-unsigned-requires-2 : tie.Need-unsigned-requires-2
-unsigned-requires-2 c κs = search needs
 
 returns-3 : tie.Need-returns-3
 returns-3 c = c .unsigned2 .ensures ∙ signed-plain _ (c .before .before .before .if1 .left) (c .before .if2 .left)
@@ -41,12 +20,12 @@ signed-spec =
     tie.close
     (tie.spec
     returns
-    shared-slice-read-if2
-    sub-unsigned
-    part-unsigned-start
-    part-unsigned-end
-    unsigned-requires
-    negated-requires
+    (λ c. search needs)
+    (λ c. search needs)
+    (λ c. search needs)
+    (λ c. search needs)
+    (λ c κs. search needs)
+    (λ c κs. search needs)
     returns-2
-    unsigned-requires-2
+    (λ c κs. search needs)
     returns-3)

@@ -7,29 +7,11 @@ use borrow.Author.Needs.{needs}
 use Rattle.numbers.proofs.unsigned.Statement.{statement}
 use Rattle.numbers.proofs.unsigned.Tie as tie
 
-run-of-requires : tie.Need-run-of-requires
-run-of-requires c κs = search needs
-
-slice-aggregate-decimal : tie.Need-slice-aggregate-decimal
-slice-aggregate-decimal c = search needs
-
-decimal-requires : tie.Need-decimal-requires
-decimal-requires c κs = search needs
-
 returns : tie.Need-returns
 returns c = c .decimal .ensures ∙ unsigned-whole _ _ (c .before .before .before .run-of .ensures) (c .before .before .if1 .taken)
 
-shared-slice-read-if2 : tie.Need-shared-slice-read-if2
-shared-slice-read-if2 c = search needs
-
 returns-2 : tie.Need-returns-2
 returns-2 c = let e = c .before .before in unsigned-other _ _ (e .before .run-of .ensures) (e .if1 .left) (c .if2 .taken)
-
-add-from : tie.Need-add-from
-add-from c = search needs
-
-run-of-requires-2 : tie.Need-run-of-requires-2
-run-of-requires-2 c κs = search needs
 
 returns-3 : tie.Need-returns-3
 returns-3 c = let e = c .before .before .before .before in unsigned-letters _ _ (e .before .run-of .ensures) (e .if1 .left) (c .before .run-of2 .ensures) (c .if3 .taken)
@@ -40,18 +22,6 @@ returns-4 c = let e = c .before .before .before .before .before in unsigned-bare
 slice-aggregate-decimal-2 : tie.Need-slice-aggregate-decimal-2
 slice-aggregate-decimal-2 c = sym (length-take-le _ _ (omega arith))
 
-sub-decimal : tie.Need-sub-decimal
-sub-decimal c = search needs
-
-part-decimal-start : tie.Need-part-decimal-start
-part-decimal-start c = search needs
-
-part-decimal-end : tie.Need-part-decimal-end
-part-decimal-end c = search needs
-
-decimal-requires-2 : tie.Need-decimal-requires-2
-decimal-requires-2 c κs = search needs
-
 returns-5 : tie.Need-returns-5
 returns-5 c = let d = c .before .before .before in
     let e = d .before .before .before .before .before in
@@ -61,19 +31,19 @@ pub unsigned-spec : {M : Type 1} → statement M
 unsigned-spec =
     tie.close
     (tie.spec
-    run-of-requires
-    slice-aggregate-decimal
-    decimal-requires
+    (λ c κs. search needs)
+    (λ c. search needs)
+    (λ c κs. search needs)
     returns
-    shared-slice-read-if2
+    (λ c. search needs)
     returns-2
-    add-from
-    run-of-requires-2
+    (λ c. search needs)
+    (λ c κs. search needs)
     returns-3
     returns-4
     slice-aggregate-decimal-2
-    sub-decimal
-    part-decimal-start
-    part-decimal-end
-    decimal-requires-2
+    (λ c. search needs)
+    (λ c. search needs)
+    (λ c. search needs)
+    (λ c κs. search needs)
     returns-5)

@@ -9,30 +9,6 @@ use borrow.Author.Needs.{needs}
 use Rattle.parts.proofs.pass_sections.Statement.{statement}
 use Rattle.parts.proofs.pass_sections.Tie as tie
 
-array-copy-out-turn : tie.Need-array-copy-out-turn
-array-copy-out-turn c = search needs
-
-turn-requires : tie.Need-turn-requires
-turn-requires c κs = search needs
-
-array-copy-out-turn-2 : tie.Need-array-copy-out-turn-2
-array-copy-out-turn-2 c = search needs
-
-turn-requires-2 : tie.Need-turn-requires-2
-turn-requires-2 c κs = search needs
-
-array-copy-out-turn-3 : tie.Need-array-copy-out-turn-3
-array-copy-out-turn-3 c = search needs
-
-turn-requires-3 : tie.Need-turn-requires-3
-turn-requires-3 c κs = search needs
-
-array-copy-out-turn-4 : tie.Need-array-copy-out-turn-4
-array-copy-out-turn-4 c = search needs
-
-turn-requires-4 : tie.Need-turn-requires-4
-turn-requires-4 c κs = search needs
-
 returns : tie.Need-returns
 returns c = let s = c .before .before .before .before .before .before .before .before .before .before .before .before in
     let four : length (s .args .t1) ≡ 4 = omega (arith, s .good .0 .1 .0 .1) in
@@ -47,12 +23,12 @@ pub pass-sections-spec : {M : Type 1} → statement M
 pass-sections-spec =
     tie.close
     (tie.spec
-    array-copy-out-turn
-    turn-requires
-    array-copy-out-turn-2
-    turn-requires-2
-    array-copy-out-turn-3
-    turn-requires-3
-    array-copy-out-turn-4
-    turn-requires-4
+    (λ c. search needs)
+    (λ c κs. search needs)
+    (λ c. search needs)
+    (λ c κs. search needs)
+    (λ c. search needs)
+    (λ c κs. search needs)
+    (λ c. search needs)
+    (λ c κs. search needs)
     returns)

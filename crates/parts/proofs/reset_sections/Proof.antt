@@ -20,27 +20,6 @@ abbrev μ-loop : tie.MeasureT-loop
 loop-holds : tie.Need-loop-holds Inv-loop μ-loop
 loop-holds c = (omega arith, upTo-none clearedBiquad _)
 
-mul-s : tie.Need-mul-s Inv-loop μ-loop
-mul-s c = search needs
-
-array-copy-out-s : tie.Need-array-copy-out-s Inv-loop μ-loop
-array-copy-out-s c = search needs
-
-reset-requires : tie.Need-reset-requires Inv-loop μ-loop
-reset-requires c κs = search needs
-
-mul-kept : tie.Need-mul-kept Inv-loop μ-loop
-mul-kept c = search needs
-
-array-set-from-kept : tie.Need-array-set-from-kept Inv-loop μ-loop
-array-set-from-kept c = search needs
-
-add-i : tie.Need-add-i Inv-loop μ-loop
-add-i c = search needs
-
-loop-less : tie.Need-loop-less Inv-loop μ-loop
-loop-less c = search needs
-
 loop-again : tie.Need-loop-again Inv-loop μ-loop
 loop-again c = let at = c .before .before .before in
     let h : at .loop .i < length (at .before .args .sections) = omega (arith, at .before .good .0 .1 .0 .1) in
@@ -58,12 +37,12 @@ reset-sections-spec =
     Inv-loop
     μ-loop
     loop-holds
-    mul-s
-    array-copy-out-s
-    reset-requires
-    mul-kept
-    array-set-from-kept
-    add-i
-    loop-less
+    (λ c. search needs)
+    (λ c. search needs)
+    (λ c κs. search needs)
+    (λ c. search needs)
+    (λ c. search needs)
+    (λ c. search needs)
+    (λ c. search needs)
     loop-again
     returns)

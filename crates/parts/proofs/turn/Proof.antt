@@ -4,9 +4,6 @@ use borrow.Author.Needs.{needs}
 use Rattle.parts.proofs.turn.Statement.{statement}
 use Rattle.parts.proofs.turn.Tie as tie
 
-process-requires : tie.Need-process-requires
-process-requires c κs = search needs
-
 returns : tie.Need-returns
 returns c = rw (c .before .if1 .taken) (c .process .ensures)
 
@@ -14,4 +11,4 @@ returns-2 : tie.Need-returns-2
 returns-2 c = rw (c .if1 .left) (refl, refl)
 
 pub turn-spec : {M : Type 1} → statement M
-turn-spec = tie.close (tie.spec process-requires returns returns-2)
+turn-spec = tie.close (tie.spec (λ c κs. search needs) returns returns-2)

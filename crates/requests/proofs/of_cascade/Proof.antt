@@ -3,11 +3,8 @@ use borrow.Author.Needs.{needs}
 use Rattle.requests.proofs.of_cascade.Statement.{statement}
 use Rattle.requests.proofs.of_cascade.Tie as tie
 
-blank-requires : tie.Need-blank-requires
-blank-requires c κs = search needs
-
 returns : tie.Need-returns
 returns c = rw (c .blank .ensures)
 
 pub of-cascade-spec : {M : Type 1} → statement M
-of-cascade-spec = tie.close (tie.spec blank-requires returns)
+of-cascade-spec = tie.close (tie.spec (λ c κs. search needs) returns)

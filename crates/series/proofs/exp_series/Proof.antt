@@ -14,20 +14,8 @@ Inv-loop r p₀ j₀ p j = (p ≡ from invFact r (13 - j) j) × (j ≤ 13)
 abbrev μ-loop : tie.MeasureT-loop
 μ-loop r p₀ j₀ p j = j
 
-inverse-factorial-requires : tie.Need-inverse-factorial-requires Inv-loop μ-loop
-inverse-factorial-requires c κs = search needs
-
 loop-holds : tie.Need-loop-holds Inv-loop μ-loop
 loop-holds c = (c .inverse-factorial .ensures ∙ from-zero invFact (c .before .args .r) 13, omega arith)
-
-sub-j : tie.Need-sub-j Inv-loop μ-loop
-sub-j c = search needs
-
-inverse-factorial-requires-2 : tie.Need-inverse-factorial-requires-2 Inv-loop μ-loop
-inverse-factorial-requires-2 c κs = search needs
-
-loop-less : tie.Need-loop-less Inv-loop μ-loop
-loop-less c = search needs
 
 loop-again : tie.Need-loop-again Inv-loop μ-loop
 loop-again c = let l = c .before .before .loop in
@@ -44,10 +32,10 @@ exp-series-spec =
     (tie.spec
     Inv-loop
     μ-loop
-    inverse-factorial-requires
+    (λ c κs. search needs)
     loop-holds
-    sub-j
-    inverse-factorial-requires-2
-    loop-less
+    (λ c. search needs)
+    (λ c κs. search needs)
+    (λ c. search needs)
     loop-again
     returns)

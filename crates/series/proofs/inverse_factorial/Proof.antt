@@ -27,12 +27,6 @@ rule : (k : ℕ) → k < 18 → T (both (eqb (getD table k 0) (fact k)) (leb (ge
 unfolding table right fact
 rule k h = at right table tt k h
 
-mul-result : tie.Need-mul-result
-mul-result c = search needs
-
-array-read-result : tie.Need-array-read-result
-array-read-result c = search needs
-
 int-to-float-result : tie.Need-int-to-float-result
 unfolding inFloat table
 int-to-float-result c =
@@ -47,4 +41,4 @@ returns c =
 
 pub inverse-factorial-spec : {M : Type 1} → statement M
 inverse-factorial-spec =
-    tie.close (tie.spec mul-result array-read-result int-to-float-result returns)
+    tie.close (tie.spec (λ c. search needs) (λ c. search needs) int-to-float-result returns)

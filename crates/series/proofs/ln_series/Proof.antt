@@ -16,21 +16,9 @@ Inv-loop s p₀ k₀ p k = (i : ℕ) × (k ≡ 2 * i + 1) × (i ≤ 10) × (p �
 abbrev μ-loop : tie.MeasureT-loop
 μ-loop s p₀ k₀ p k = k
 
-inverse-requires : tie.Need-inverse-requires Inv-loop μ-loop
-inverse-requires c κs = search needs
-
 loop-holds : tie.Need-loop-holds Inv-loop μ-loop
 unfolding odds
 loop-holds c = (10, refl, omega arith, c .inverse .ensures ∙ from-zero odds (c .before .args .s) 10)
-
-sub-k : tie.Need-sub-k Inv-loop μ-loop
-sub-k c = search needs
-
-inverse-requires-2 : tie.Need-inverse-requires-2 Inv-loop μ-loop
-inverse-requires-2 c κs = search needs
-
-loop-less : tie.Need-loop-less Inv-loop μ-loop
-loop-less c = search needs
 
 loop-again : tie.Need-loop-again Inv-loop μ-loop
 loop-again c = let l = c .before .before .loop in
@@ -48,10 +36,10 @@ ln-series-spec =
     (tie.spec
     Inv-loop
     μ-loop
-    inverse-requires
+    (λ c κs. search needs)
     loop-holds
-    sub-k
-    inverse-requires-2
-    loop-less
+    (λ c. search needs)
+    (λ c κs. search needs)
+    (λ c. search needs)
     loop-again
     returns)

@@ -4,12 +4,9 @@ use borrow.Author.Needs.{needs}
 use Rattle.series.proofs.sin_rest.Statement.{statement}
 use Rattle.series.proofs.sin_rest.Tie as tie
 
-alternating-requires : tie.Need-alternating-requires
-alternating-requires c κs = search needs
-
 returns : tie.Need-returns
 unfolding sinRest
 returns c = rw (c .alternating .ensures)
 
 pub sin-rest-spec : {M : Type 1} → statement M
-sin-rest-spec = tie.close (tie.spec alternating-requires returns)
+sin-rest-spec = tie.close (tie.spec (λ c κs. search needs) returns)

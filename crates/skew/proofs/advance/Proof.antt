@@ -6,18 +6,6 @@ use Rattle.cascade_theory.proofs.Skew.{went, advanced-is}
 use Rattle.skew.proofs.advance.Statement.{statement}
 use Rattle.skew.proofs.advance.Tie as tie
 
-process-requires : tie.Need-process-requires
-process-requires c κs = search needs
-
-process-requires-2 : tie.Need-process-requires-2
-process-requires-2 c κs = search needs
-
-process-requires-3 : tie.Need-process-requires-3
-process-requires-3 c κs = search needs
-
-process-requires-4 : tie.Need-process-requires-4
-process-requires-4 c κs = search needs
-
 returns : tie.Need-returns
 unfolding lineOut
 returns c = let d = c .before .before .before .before in
@@ -27,4 +15,4 @@ returns c = let d = c .before .before .before .before in
 pub advance-spec : {M : Type 1} → statement M
 advance-spec =
     tie.close
-    (tie.spec process-requires process-requires-2 process-requires-3 process-requires-4 returns)
+    (tie.spec (λ c κs. search needs) (λ c κs. search needs) (λ c κs. search needs) (λ c κs. search needs) returns)

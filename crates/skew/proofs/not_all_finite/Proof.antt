@@ -18,23 +18,8 @@ abbrev μ-loop : tie.MeasureT-loop
 loop-holds : tie.Need-loop-holds Inv-loop μ-loop
 loop-holds c = count-start _
 
-mul-not-finite : tie.Need-mul-not-finite Inv-loop μ-loop
-mul-not-finite c = search needs
-
-shared-slice-read-not-finite : tie.Need-shared-slice-read-not-finite Inv-loop μ-loop
-shared-slice-read-not-finite c = search needs
-
-not-finite-requires : tie.Need-not-finite-requires Inv-loop μ-loop
-not-finite-requires c κs = search needs
-
 add-count : tie.Need-add-count Inv-loop μ-loop
 add-count c = omega (arith, c .not-finite .ensures, at-most-one (finite (getD (c .before .before .before .before .before .args .samples .now) (c .before .before .before .loop .i) nan)))
-
-add-i : tie.Need-add-i Inv-loop μ-loop
-add-i c = search needs
-
-loop-less : tie.Need-loop-less Inv-loop μ-loop
-loop-less c = search needs
 
 loop-again : tie.Need-loop-again Inv-loop μ-loop
 loop-again c = count-turn _ (omega arith) (c .not-finite .ensures) (c .before .before .before .loop .inv)
@@ -49,11 +34,11 @@ not-all-finite-spec =
     Inv-loop
     μ-loop
     loop-holds
-    mul-not-finite
-    shared-slice-read-not-finite
-    not-finite-requires
+    (λ c. search needs)
+    (λ c. search needs)
+    (λ c κs. search needs)
     add-count
-    add-i
-    loop-less
+    (λ c. search needs)
+    (λ c. search needs)
     loop-again
     returns)

@@ -27,76 +27,19 @@ returns-2 : tie.Need-returns-2 Inv-loop μ-loop
 unfolding ran
 returns-2 c = rw (le-leb 3 _ (c .before .if1 .left), lt-leb _ _ (c .if2 .taken))
 
-shared-slice-read-fill : tie.Need-shared-slice-read-fill Inv-loop μ-loop
-shared-slice-read-fill c = search needs
-
-shared-slice-read-fill-2 : tie.Need-shared-slice-read-fill-2 Inv-loop μ-loop
-shared-slice-read-fill-2 c = search needs
-
-shared-slice-read-fill-3 : tie.Need-shared-slice-read-fill-3 Inv-loop μ-loop
-shared-slice-read-fill-3 c = search needs
-
-fill-requires : tie.Need-fill-requires Inv-loop μ-loop
-fill-requires c κs = search needs
-
 loop-holds : tie.Need-loop-holds Inv-loop μ-loop
 loop-holds c = let e = c .before .before .before .before in
     (omega arith, refl, e .if2 .left, e .before .before .before .before .good .1 .0 .1, λ k h. line-start binary64 k _ _ (e .if2 .left) h)
-
-add-advance : tie.Need-add-advance Inv-loop μ-loop
-add-advance c = omega arith
-
-mul-advance : tie.Need-mul-advance Inv-loop μ-loop
-mul-advance c = omega arith
-
-shared-slice-read-advance : tie.Need-shared-slice-read-advance Inv-loop μ-loop
-shared-slice-read-advance c = search needs
-
-advance-requires : tie.Need-advance-requires Inv-loop μ-loop
-advance-requires c κs = search needs
-
-mul-output : tie.Need-mul-output Inv-loop μ-loop
-mul-output c = omega arith
-
-slice-write-output : tie.Need-slice-write-output Inv-loop μ-loop
-slice-write-output c = omega arith
-
-add-i : tie.Need-add-i Inv-loop μ-loop
-add-i c = omega arith
-
-loop-less : tie.Need-loop-less Inv-loop μ-loop
-loop-less c = search needs
 
 loop-again : tie.Need-loop-again Inv-loop μ-loop
 loop-again c = let l = c .before .before .before .before in
     let a = c .before .advance .ensures in
     (omega arith, rw length-set (l .loop .inv .1), l .loop .inv .2, l .loop .inv .3, λ k e. line-turn binary64 k _ _ (omega arith) (a .0) (a .1) (l .loop .inv .4 k e))
 
-drain-requires : tie.Need-drain-requires Inv-loop μ-loop
-drain-requires c κs = search needs
-
-mul-output-2 : tie.Need-mul-output-2 Inv-loop μ-loop
-mul-output-2 c = omega arith
-
-slice-write-output-2 : tie.Need-slice-write-output-2 Inv-loop μ-loop
-slice-write-output-2 c = omega arith
-
-add-output : tie.Need-add-output Inv-loop μ-loop
-add-output c = omega arith
-
-mul-output-3 : tie.Need-mul-output-3 Inv-loop μ-loop
-mul-output-3 c = omega arith
-
 slice-write-output-3 : tie.Need-slice-write-output-3 Inv-loop μ-loop
 slice-write-output-3 c = let l = c .before .before in
     let h : l .loop .i + 1 < length (l .loop .output) = omega arith in
     simp length-set h
-
-add-output-2 : tie.Need-add-output-2 Inv-loop μ-loop
-add-output-2 c = omega arith
-
-mul-output-4 : tie.Need-mul-output-4 Inv-loop μ-loop
-mul-output-4 c = omega arith
 
 slice-write-output-4 : tie.Need-slice-write-output-4 Inv-loop μ-loop
 slice-write-output-4 c = let l = c .before .before in
@@ -118,28 +61,28 @@ run-spec =
     μ-loop
     returns
     returns-2
-    shared-slice-read-fill
-    shared-slice-read-fill-2
-    shared-slice-read-fill-3
-    fill-requires
+    (λ c. search needs)
+    (λ c. search needs)
+    (λ c. search needs)
+    (λ c κs. search needs)
     loop-holds
-    add-advance
-    mul-advance
-    shared-slice-read-advance
-    advance-requires
-    mul-output
-    slice-write-output
-    add-i
-    loop-less
+    (λ c. omega arith)
+    (λ c. omega arith)
+    (λ c. search needs)
+    (λ c κs. search needs)
+    (λ c. omega arith)
+    (λ c. omega arith)
+    (λ c. omega arith)
+    (λ c. search needs)
     loop-again
-    drain-requires
-    mul-output-2
-    slice-write-output-2
-    add-output
-    mul-output-3
+    (λ c κs. search needs)
+    (λ c. omega arith)
+    (λ c. omega arith)
+    (λ c. omega arith)
+    (λ c. omega arith)
     slice-write-output-3
-    add-output-2
-    mul-output-4
+    (λ c. omega arith)
+    (λ c. omega arith)
     slice-write-output-4
     same-length
     returns-3)

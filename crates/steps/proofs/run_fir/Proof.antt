@@ -20,35 +20,11 @@ abbrev μ-loop : tie.MeasureT-loop
 loop-holds : tie.Need-loop-holds Inv-loop μ-loop
 loop-holds c = (omega arith, steps-start (fir capacity binary64) _ _ _)
 
-mul-update : tie.Need-mul-update Inv-loop μ-loop
-mul-update c = search needs
-
-shared-slice-read-update : tie.Need-shared-slice-read-update Inv-loop μ-loop
-shared-slice-read-update c = search needs
-
-update-requires : tie.Need-update-requires Inv-loop μ-loop
-update-requires c κs = search needs
-
-mul-place : tie.Need-mul-place Inv-loop μ-loop
-mul-place c = search needs
-
 slice-read-place : tie.Need-slice-read-place Inv-loop μ-loop
 slice-read-place c = let l = c .before .before .before .before in omega (arith, l .loop .inv .1 .same, l .before .before .before .pre, c .before .before .before .loop-test .taken)
 
-place-requires : tie.Need-place-requires Inv-loop μ-loop
-place-requires c κs = search needs
-
-mul-output : tie.Need-mul-output Inv-loop μ-loop
-mul-output c = search needs
-
 slice-write-output : tie.Need-slice-write-output Inv-loop μ-loop
 slice-write-output c = let l = c .before .before .before .before .before in omega (arith, l .loop .inv .1 .same, l .before .before .before .pre, c .before .before .before .before .loop-test .taken)
-
-add-i : tie.Need-add-i Inv-loop μ-loop
-add-i c = search needs
-
-loop-less : tie.Need-loop-less Inv-loop μ-loop
-loop-less c = search needs
 
 loop-again : tie.Need-loop-again Inv-loop μ-loop
 loop-again c = let l = c .before .before .before .before .before .before in
@@ -68,16 +44,16 @@ run-fir-spec =
     Inv-loop
     μ-loop
     loop-holds
-    mul-update
-    shared-slice-read-update
-    update-requires
-    mul-place
+    (λ c. search needs)
+    (λ c. search needs)
+    (λ c κs. search needs)
+    (λ c. search needs)
     slice-read-place
-    place-requires
-    mul-output
+    (λ c κs. search needs)
+    (λ c. search needs)
     slice-write-output
-    add-i
-    loop-less
+    (λ c. search needs)
+    (λ c. search needs)
     loop-again
     same-length
     returns)

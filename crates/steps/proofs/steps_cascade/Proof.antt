@@ -10,9 +10,6 @@ use borrow.Author.Needs.{needs}
 use Rattle.steps.proofs.steps_cascade.Statement.{statement}
 use Rattle.steps.proofs.steps_cascade.Tie as tie
 
-design-butterworth-lp-requires : tie.Need-design-butterworth-lp-requires
-design-butterworth-lp-requires c κs = search needs
-
 returns : tie.Need-returns
 unfolding cascadeSteps
 returns c = let a = c .before .before .before .before .args in
@@ -25,12 +22,6 @@ returns-2 c = let a = c .before .before .before .before .before .args in
     let r = designView (c .before .before .design-butterworth-lp .result) in
     steps-short (cascade binary64) (r .refusal) (r .cascade) (a .input .now) (a .output .now) (c .before .if1 .left) (c .if2 .taken) ∙ ap (λ (d : DesignRecord). stepsOf (cascade binary64) (d .refusal) (d .cascade) (a .input .now) (a .output .now)) (c .before .before .design-butterworth-lp .ensures)
 
-run-cascade-requires : tie.Need-run-cascade-requires
-run-cascade-requires c κs = search needs
-
-same-length : tie.Need-same-length
-same-length c = search needs
-
 returns-3 : tie.Need-returns-3
 unfolding cascadeSteps
 returns-3 c = let a = c .before .before .before .before .before .before .before .before .before .before .args in
@@ -41,9 +32,9 @@ pub steps-cascade-spec : {M : Type 1} → statement M
 steps-cascade-spec =
     tie.close
     (tie.spec
-    design-butterworth-lp-requires
+    (λ c κs. search needs)
     returns
     returns-2
-    run-cascade-requires
-    same-length
+    (λ c κs. search needs)
+    (λ c. search needs)
     returns-3)

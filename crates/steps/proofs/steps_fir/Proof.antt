@@ -10,9 +10,6 @@ use borrow.Author.Needs.{needs}
 use Rattle.steps.proofs.steps_fir.Statement.{statement}
 use Rattle.steps.proofs.steps_fir.Tie as tie
 
-from-coeffs-requires : tie.Need-from-coeffs-requires
-from-coeffs-requires c κs = search needs
-
 returns : tie.Need-returns
 unfolding firSteps
 returns c = let a = c .before .before .before .before .before .args in
@@ -25,12 +22,6 @@ returns-2 c = let a = c .before .before .before .before .before .before .args in
     let r = madeView (c .before .before .from-coeffs .result) in
     steps-short (fir capacity binary64) (r .refusal) (r .filter) (a .input .now) (a .output .now) (c .before .if1 .left) (c .if2 .taken) ∙ ap (λ (d : Made). stepsOf (fir capacity binary64) (d .refusal) (d .filter) (a .input .now) (a .output .now)) (c .before .before .from-coeffs .ensures)
 
-run-fir-requires : tie.Need-run-fir-requires
-run-fir-requires c κs = search needs
-
-same-length : tie.Need-same-length
-same-length c = search needs
-
 returns-3 : tie.Need-returns-3
 unfolding firSteps
 returns-3 c = let a = c .before .before .before .before .before .before .before .before .before .before .before .args in
@@ -40,4 +31,4 @@ returns-3 c = let a = c .before .before .before .before .before .before .before 
 pub steps-fir-spec : {M : Type 1} → statement M
 steps-fir-spec =
     tie.close
-    (tie.spec from-coeffs-requires returns returns-2 run-fir-requires same-length returns-3)
+    (tie.spec (λ c κs. search needs) returns returns-2 (λ c κs. search needs) (λ c. search needs) returns-3)

@@ -19,15 +19,6 @@ abbrev μ-loop : tie.MeasureT-loop
 loop-holds : tie.Need-loop-holds Inv-loop μ-loop
 loop-holds c = let s = c .args .samples .now in (omega arith, copy-start (replicate (length s) plusZero) s s refl)
 
-mul-samples : tie.Need-mul-samples Inv-loop μ-loop
-mul-samples c = omega arith
-
-slice-write-samples : tie.Need-slice-write-samples Inv-loop μ-loop
-slice-write-samples c = omega arith
-
-add-i : tie.Need-add-i Inv-loop μ-loop
-add-i c = omega arith
-
 loop-less : tie.Need-loop-less Inv-loop μ-loop
 loop-less c = omega (arith, c .before .loop .inv)
 
@@ -55,9 +46,9 @@ clear-spec =
     Inv-loop
     μ-loop
     loop-holds
-    mul-samples
-    slice-write-samples
-    add-i
+    (λ c. omega arith)
+    (λ c. omega arith)
+    (λ c. omega arith)
     loop-less
     loop-again
     same-length

@@ -7,19 +7,13 @@ use Rattle.fir_theory.proofs.Laws.{finite-clear}
 use Rattle.taps.proofs.clouds.Statement.{statement}
 use Rattle.taps.proofs.clouds.Tie as tie
 
-is-finite-requires : tie.Need-is-finite-requires
-is-finite-requires c κs = search needs
-
 returns : tie.Need-returns
 returns c = let p = c .before .before .before .before .pre in
     finite-clear binary64 _ _ _ _ (p .0) (p .1) (p .2) (sym (c .before .is-finite .ensures) ∙ c .if1 .taken)
-
-not-all-finite-requires : tie.Need-not-all-finite-requires
-not-all-finite-requires c κs = search needs
 
 returns-2 : tie.Need-returns-2
 unfolding clouding
 returns-2 c = c .not-all-finite .ensures
 
 pub clouds-spec : {M : Type 1} → statement M
-clouds-spec = tie.close (tie.spec is-finite-requires returns not-all-finite-requires returns-2)
+clouds-spec = tie.close (tie.spec (λ c κs. search needs) returns (λ c κs. search needs) returns-2)

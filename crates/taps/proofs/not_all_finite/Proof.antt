@@ -18,25 +18,10 @@ abbrev μ-loop : tie.MeasureT-loop
 loop-holds : tie.Need-loop-holds Inv-loop μ-loop
 loop-holds c = (search needs, refl)
 
-mul-is-finite : tie.Need-mul-is-finite Inv-loop μ-loop
-mul-is-finite c = omega arith
-
-shared-slice-read-is-finite : tie.Need-shared-slice-read-is-finite Inv-loop μ-loop
-shared-slice-read-is-finite c = omega arith
-
-is-finite-requires : tie.Need-is-finite-requires Inv-loop μ-loop
-is-finite-requires c κs = tt
-
 returns : tie.Need-returns Inv-loop μ-loop
 returns c = let l = c .before .before .before .before in
     let a = l .before .before .args in
     look-found (a .samples .now) (a .n) (l .loop .i) (omega arith) (omega arith) (sym (c .before .is-finite .ensures) ∙ not-true _ (c .if1 .taken)) (l .loop .inv .1)
-
-add-i : tie.Need-add-i Inv-loop μ-loop
-add-i c = omega arith
-
-loop-less : tie.Need-loop-less Inv-loop μ-loop
-loop-less c = omega arith
 
 loop-again : tie.Need-loop-again Inv-loop μ-loop
 loop-again c = let l = c .before .before .before .before in
@@ -53,11 +38,11 @@ not-all-finite-spec =
     Inv-loop
     μ-loop
     loop-holds
-    mul-is-finite
-    shared-slice-read-is-finite
-    is-finite-requires
+    (λ c. omega arith)
+    (λ c. omega arith)
+    (λ c κs. tt)
     returns
-    add-i
-    loop-less
+    (λ c. omega arith)
+    (λ c. omega arith)
     loop-again
     returns-2)

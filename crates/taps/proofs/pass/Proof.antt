@@ -15,9 +15,6 @@ start j = j .before .before .before
 held-is : (j : tie.Joined1) → j .if1 .held ≡ min (start j .args .held + 1) (start j .args .n)
 held-is j = ⊎-elim (λ w. omega arith) (λ w. omega arith) (j .if1 .came)
 
-add-held : tie.Need-add-held
-add-held c = search needs
-
 take-in-requires : tie.Need-take-in-requires
 take-in-requires c κs = let j = c .before in
     let p = start j .pre in
@@ -30,12 +27,9 @@ clouds-requires c κs = let t = c .before .before .before .take-in .ensures in
     let l = ap length (t .0) ∙ length-pushed _ _ _ (p .1) in
     (omega (arith, held-is j, p .0), omega (arith, held-is j, p .1, l), rw (t .0) (t .1))
 
-same-length : tie.Need-same-length
-same-length c = search needs
-
 returns : tie.Need-returns
 returns c = let t = c .before .before .before .before .take-in .ensures in
     (t .0, held-is (c .before .before .before .before .before .before), rw (t .0) (t .1), c .clouds .ensures)
 
 pub pass-spec : {M : Type 1} → statement M
-pass-spec = tie.close (tie.spec add-held take-in-requires clouds-requires same-length returns)
+pass-spec = tie.close (tie.spec (λ c. search needs) take-in-requires clouds-requires (λ c. search needs) returns)

@@ -16,29 +16,8 @@ abbrev μ-loop : tie.MeasureT-loop
 loop-holds : tie.Need-loop-holds Inv-loop μ-loop
 loop-holds c = (search needs, push-start _ _)
 
-mul-old : tie.Need-mul-old Inv-loop μ-loop
-mul-old c = omega arith
-
-slice-read-old : tie.Need-slice-read-old Inv-loop μ-loop
-slice-read-old c = omega arith
-
-mul-samples : tie.Need-mul-samples Inv-loop μ-loop
-mul-samples c = omega arith
-
-slice-write-samples : tie.Need-slice-write-samples Inv-loop μ-loop
-slice-write-samples c = omega arith
-
-add-i : tie.Need-add-i Inv-loop μ-loop
-add-i c = omega arith
-
-loop-less : tie.Need-loop-less Inv-loop μ-loop
-loop-less c = omega arith
-
 loop-again : tie.Need-loop-again Inv-loop μ-loop
 loop-again c = (omega arith, push-turn _ _ _ _ _ (omega arith) (c .before .before .loop .inv .1))
-
-same-length : tie.Need-same-length Inv-loop μ-loop
-same-length c = omega arith
 
 returns : tie.Need-returns Inv-loop μ-loop
 returns c = let e : c .before .loop .i ≡ c .before .before .args .n = omega arith in
@@ -51,12 +30,12 @@ push-spec =
     Inv-loop
     μ-loop
     loop-holds
-    mul-old
-    slice-read-old
-    mul-samples
-    slice-write-samples
-    add-i
-    loop-less
+    (λ c. omega arith)
+    (λ c. omega arith)
+    (λ c. omega arith)
+    (λ c. omega arith)
+    (λ c. omega arith)
+    (λ c. omega arith)
     loop-again
-    same-length
+    (λ c. omega arith)
     returns)

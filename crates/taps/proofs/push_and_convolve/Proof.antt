@@ -20,38 +20,11 @@ loop-holds : tie.Need-loop-holds Inv-loop μ-loop
 unfolding ofBits
 loop-holds c = (search needs, push-start _ _, refl)
 
-mul-old : tie.Need-mul-old Inv-loop μ-loop
-mul-old c = omega arith
-
-slice-read-old : tie.Need-slice-read-old Inv-loop μ-loop
-slice-read-old c = omega arith
-
-mul-samples : tie.Need-mul-samples Inv-loop μ-loop
-mul-samples c = omega arith
-
-slice-write-samples : tie.Need-slice-write-samples Inv-loop μ-loop
-slice-write-samples c = omega arith
-
-mul-acc : tie.Need-mul-acc Inv-loop μ-loop
-mul-acc c = omega arith
-
-shared-slice-read-acc : tie.Need-shared-slice-read-acc Inv-loop μ-loop
-shared-slice-read-acc c = omega arith
-
-add-i : tie.Need-add-i Inv-loop μ-loop
-add-i c = omega arith
-
-loop-less : tie.Need-loop-less Inv-loop μ-loop
-loop-less c = omega arith
-
 loop-again : tie.Need-loop-again Inv-loop μ-loop
 loop-again c = let l = c .before .before .before in
     let a = l .before .args in
     let p = l .loop .inv .1 in
     (omega arith, push-turn _ _ _ _ _ (omega arith) p, rw (p .1) (sum-turn _ (a .taps .now) (a .x ∷ a .samples .now) _ (a .n) (l .loop .i) (omega arith) (omega arith) (omega arith) (l .loop .inv .2)))
-
-same-length : tie.Need-same-length Inv-loop μ-loop
-same-length c = omega arith
 
 returns : tie.Need-returns Inv-loop μ-loop
 returns c = let l = c .before in
@@ -66,14 +39,14 @@ push-and-convolve-spec =
     Inv-loop
     μ-loop
     loop-holds
-    mul-old
-    slice-read-old
-    mul-samples
-    slice-write-samples
-    mul-acc
-    shared-slice-read-acc
-    add-i
-    loop-less
+    (λ c. omega arith)
+    (λ c. omega arith)
+    (λ c. omega arith)
+    (λ c. omega arith)
+    (λ c. omega arith)
+    (λ c. omega arith)
+    (λ c. omega arith)
+    (λ c. omega arith)
     loop-again
-    same-length
+    (λ c. omega arith)
     returns)

@@ -9,15 +9,9 @@ use borrow.Author.Needs.{needs}
 use Rattle.taps.proofs.refusal_of.Statement.{statement}
 use Rattle.taps.proofs.refusal_of.Tie as tie
 
-fit-requires : tie.Need-fit-requires
-fit-requires c κs = search needs
-
 returns : tie.Need-returns
 unfolding fits
 returns c = refusal-unfit (fir capacity binary64) (fits capacity) _ (sym (c .before .fit .ensures) ∙ not-true _ (c .if1 .taken))
-
-check-requires : tie.Need-check-requires
-check-requires c κs = search needs
 
 returns-2 : tie.Need-returns-2
 unfolding fits checkTaps
@@ -30,4 +24,4 @@ returns-3 c = let e = c .before .before in
     refusal-none (fir capacity binary64) (fits capacity) _ (sym (e .before .fit .ensures) ∙ not-false _ (e .if1 .left)) (sym (c .before .check .ensures) ∙ not-false _ (c .if2 .left))
 
 pub refusal-of-spec : {M : Type 1} → statement M
-refusal-of-spec = tie.close (tie.spec fit-requires returns check-requires returns-2 returns-3)
+refusal-of-spec = tie.close (tie.spec (λ c κs. search needs) returns (λ c κs. search needs) returns-2 returns-3)

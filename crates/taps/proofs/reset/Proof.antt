@@ -10,20 +10,8 @@ use borrow.Author.Needs.{needs}
 use Rattle.taps.proofs.reset.Statement.{statement}
 use Rattle.taps.proofs.reset.Tie as tie
 
-refusal-of-requires : tie.Need-refusal-of-requires
-refusal-of-requires c κs = search needs
-
-same-length : tie.Need-same-length
-same-length c = search needs
-
 returns : tie.Need-returns
 returns c = lent-reset-refused (fir capacity binary64) (fits capacity) _ (c .before .refusal-of .ensures) (c .if1 .taken)
-
-clear-requires : tie.Need-clear-requires
-clear-requires c κs = search needs
-
-same-length-2 : tie.Need-same-length-2
-same-length-2 c = search needs
 
 returns-2 : tie.Need-returns-2
 returns-2 c = let e = c .before .before .before .before in
@@ -33,4 +21,4 @@ returns-2 c = let e = c .before .before .before .before in
 pub reset-spec : {M : Type 1} → statement M
 reset-spec =
     tie.close
-    (tie.spec refusal-of-requires same-length returns clear-requires same-length-2 returns-2)
+    (tie.spec (λ c κs. search needs) (λ c. search needs) returns (λ c κs. search needs) (λ c. search needs) returns-2)

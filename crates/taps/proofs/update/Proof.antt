@@ -11,12 +11,6 @@ use borrow.Author.Needs.{needs}
 use Rattle.taps.proofs.update.Statement.{statement}
 use Rattle.taps.proofs.update.Tie as tie
 
-refusal-of-requires : tie.Need-refusal-of-requires
-refusal-of-requires c κs = search needs
-
-same-length : tie.Need-same-length
-same-length c = search needs
-
 returns : tie.Need-returns
 returns c = lent-step-refused (fir capacity binary64) (fits capacity) _ _ (c .before .refusal-of .ensures) (c .if1 .taken)
 
@@ -30,15 +24,9 @@ good e = lent-good (fir capacity binary64) (fits capacity) (lent-of e) (λ z. om
 pass-requires : tie.Need-pass-requires
 pass-requires c κs = let g = good (c .before) in rooms capacity _ (g .0) (g .1)
 
-same-length-2 : tie.Need-same-length-2
-same-length-2 c = search needs
-
 returns-2 : tie.Need-returns-2
 returns-2 c = let g = good (c .before .before .before .before .before) in
     update-is binary64 capacity _ (g .0) (g .1) _ true (c .before .before .before .pass .ensures) (c .if2 .taken)
-
-same-length-3 : tie.Need-same-length-3
-same-length-3 c = search needs
 
 returns-3 : tie.Need-returns-3
 returns-3 c = let g = good (c .before .before .before .before .before) in
@@ -48,11 +36,11 @@ pub update-spec : {M : Type 1} → statement M
 update-spec =
     tie.close
     (tie.spec
-    refusal-of-requires
-    same-length
+    (λ c κs. search needs)
+    (λ c. search needs)
     returns
     pass-requires
-    same-length-2
+    (λ c. search needs)
     returns-2
-    same-length-3
+    (λ c. search needs)
     returns-3)

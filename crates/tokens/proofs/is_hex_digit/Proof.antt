@@ -4,22 +4,13 @@ use borrow.Author.Needs.{needs}
 use Rattle.tokens.proofs.is_hex_digit.Statement.{statement}
 use Rattle.tokens.proofs.is_hex_digit.Tie as tie
 
-between-requires : tie.Need-between-requires
-between-requires c κs = search needs
-
 returns : tie.Need-returns
 unfolding isHexDigit
 returns c = rw (← c .before .between .ensures, c .if1 .taken)
 
-between-requires-2 : tie.Need-between-requires-2
-between-requires-2 c κs = search needs
-
 returns-2 : tie.Need-returns-2
 unfolding isHexDigit
 returns-2 c = rw (← c .before .before .before .between .ensures, c .before .before .if1 .left, ← c .before .between2 .ensures, c .if2 .taken)
-
-between-requires-3 : tie.Need-between-requires-3
-between-requires-3 c κs = search needs
 
 returns-3 : tie.Need-returns-3
 unfolding isHexDigit
@@ -28,4 +19,4 @@ returns-3 c = let e = c .before .before .before in rw (← e .before .between .e
 pub is-hex-digit-spec : {M : Type 1} → statement M
 is-hex-digit-spec =
     tie.close
-    (tie.spec between-requires returns between-requires-2 returns-2 between-requires-3 returns-3)
+    (tie.spec (λ c κs. search needs) returns (λ c κs. search needs) returns-2 (λ c κs. search needs) returns-3)

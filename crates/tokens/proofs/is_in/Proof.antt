@@ -4,24 +4,6 @@ use borrow.Author.Needs.{needs}
 use Rattle.tokens.proofs.is_in.Statement.{statement}
 use Rattle.tokens.proofs.is_in.Tie as tie
 
-enum-told : tie.Need-enum-told
-enum-told c = search needs
-
-enum-told-2 : tie.Need-enum-told-2
-enum-told-2 c = search needs
-
-enum-told-3 : tie.Need-enum-told-3
-enum-told-3 c = search needs
-
-between-requires : tie.Need-between-requires
-between-requires c κs = search needs
-
-enum-told-4 : tie.Need-enum-told-4
-enum-told-4 c = search needs
-
-is-hex-digit-requires : tie.Need-is-hex-digit-requires
-is-hex-digit-requires c κs = search needs
-
 returns : tie.Need-returns
 unfolding inClass
 returns c = rw (c .enum-told .given .1)
@@ -42,12 +24,12 @@ pub is-in-spec : {M : Type 1} → statement M
 is-in-spec =
     tie.close
     (tie.spec
-    enum-told
-    enum-told-2
-    enum-told-3
-    between-requires
-    enum-told-4
-    is-hex-digit-requires
+    (λ c. search needs)
+    (λ c. search needs)
+    (λ c. search needs)
+    (λ c κs. search needs)
+    (λ c. search needs)
+    (λ c κs. search needs)
     returns
     returns-2
     returns-3

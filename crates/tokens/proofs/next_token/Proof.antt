@@ -4,15 +4,9 @@ use borrow.Author.Needs.{needs}
 use Rattle.tokens.proofs.next_token.Statement.{statement}
 use Rattle.tokens.proofs.next_token.Tie as tie
 
-run-of-requires : tie.Need-run-of-requires
-run-of-requires c κs = search needs
-
-run-of-requires-2 : tie.Need-run-of-requires-2
-run-of-requires-2 c κs = search needs
-
 returns : tie.Need-returns
 unfolding nextToken inClass
 returns c = rw (c .run-of2 .ensures, c .before .run-of .ensures)
 
 pub next-token-spec : {M : Type 1} → statement M
-next-token-spec = tie.close (tie.spec run-of-requires run-of-requires-2 returns)
+next-token-spec = tie.close (tie.spec (λ c κs. search needs) (λ c κs. search needs) returns)

@@ -15,23 +15,8 @@ Inv-loop class bytes from i₀ i = Running (inClass class) bytes from i
 abbrev μ-loop : tie.MeasureT-loop
 μ-loop class bytes from i₀ i = length bytes - i
 
-loop-holds : tie.Need-loop-holds Inv-loop μ-loop
-loop-holds c = refl
-
-shared-slice-read-is-in : tie.Need-shared-slice-read-is-in Inv-loop μ-loop
-shared-slice-read-is-in c = search needs
-
-is-in-requires : tie.Need-is-in-requires Inv-loop μ-loop
-is-in-requires c κs = search needs
-
 returns : tie.Need-returns Inv-loop μ-loop
 returns c = run-found (inClass _) _ _ _ (c .before .before .before .loop-test .taken) (sym (c .before .is-in .ensures) ∙ not-true _ (c .if1 .taken)) (c .before .before .before .before .loop .inv)
-
-add-i : tie.Need-add-i Inv-loop μ-loop
-add-i c = search needs
-
-loop-less : tie.Need-loop-less Inv-loop μ-loop
-loop-less c = search needs
 
 loop-again : tie.Need-loop-again Inv-loop μ-loop
 loop-again c = run-turn (inClass _) _ _ _ (c .before .before .before .loop-test .taken) (sym (c .before .is-in .ensures) ∙ not-false _ (c .if1 .left)) (c .before .before .before .before .loop .inv)
@@ -45,11 +30,11 @@ run-of-spec =
     (tie.spec
     Inv-loop
     μ-loop
-    loop-holds
-    shared-slice-read-is-in
-    is-in-requires
+    (λ c. refl)
+    (λ c. search needs)
+    (λ c κs. search needs)
     returns
-    add-i
-    loop-less
+    (λ c. search needs)
+    (λ c. search needs)
     loop-again
     returns-2)

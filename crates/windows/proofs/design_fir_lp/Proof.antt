@@ -8,12 +8,6 @@ use borrow.Author.Needs.{needs}
 use Rattle.windows.proofs.design_fir_lp.Statement.{statement}
 use Rattle.windows.proofs.design_fir_lp.Tie as tie
 
-validate-fir-requires : tie.Need-validate-fir-requires
-validate-fir-requires c κs = search needs
-
-blank-requires : tie.Need-blank-requires
-blank-requires c κs = search needs
-
 returns : tie.Need-returns
 returns c = let b = c .before in
     let v = b .before .validate-fir in
@@ -29,9 +23,6 @@ normalised-requires c κs = let e = c .before .before in
     let s = e .before .before .before in
     good-fir (s .args .taps) (s .args .cutoff) (sym (e .before .before .validate-fir .ensures) ∙ e .if1 .left) .1
 
-window-code-requires : tie.Need-window-code-requires
-window-code-requires c κs = search needs
-
 returns-2 : tie.Need-returns-2
 returns-2 c = let n = c .before in
     let e = n .before .before .before in
@@ -43,10 +34,10 @@ pub design-fir-lp-spec : {M : Type 1} → statement M
 design-fir-lp-spec =
     tie.close
     (tie.spec
-    validate-fir-requires
-    blank-requires
+    (λ c κs. search needs)
+    (λ c κs. search needs)
     returns
     windowed-requires
     normalised-requires
-    window-code-requires
+    (λ c κs. search needs)
     returns-2)

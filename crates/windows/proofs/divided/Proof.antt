@@ -18,24 +18,6 @@ abbrev μ-loop : tie.MeasureT-loop
 loop-holds : tie.Need-loop-holds Inv-loop μ-loop
 loop-holds c = (search needs, refl)
 
-mul-c : tie.Need-mul-c Inv-loop μ-loop
-mul-c c = omega arith
-
-array-read-c : tie.Need-array-read-c Inv-loop μ-loop
-array-read-c c = omega arith
-
-mul-kept : tie.Need-mul-kept Inv-loop μ-loop
-mul-kept c = omega arith
-
-array-write-kept : tie.Need-array-write-kept Inv-loop μ-loop
-array-write-kept c = omega arith
-
-add-i : tie.Need-add-i Inv-loop μ-loop
-add-i c = omega arith
-
-loop-less : tie.Need-loop-less Inv-loop μ-loop
-loop-less c = omega arith
-
 loop-again : tie.Need-loop-again Inv-loop μ-loop
 loop-again c = let l = c .before in
     (omega arith, divide-turn _ _ (l .loop .kept) (l .loop .i) (omega arith) (l .loop .inv .1))
@@ -51,11 +33,11 @@ divided-spec =
     Inv-loop
     μ-loop
     loop-holds
-    mul-c
-    array-read-c
-    mul-kept
-    array-write-kept
-    add-i
-    loop-less
+    (λ c. omega arith)
+    (λ c. omega arith)
+    (λ c. omega arith)
+    (λ c. omega arith)
+    (λ c. omega arith)
+    (λ c. omega arith)
     loop-again
     returns)

@@ -6,15 +6,6 @@ use borrow.Author.Needs.{needs}
 use Rattle.windows.proofs.normalised.Statement.{statement}
 use Rattle.windows.proofs.normalised.Tie as tie
 
-sum-of-requires : tie.Need-sum-of-requires
-sum-of-requires c κs = search needs
-
-abs-requires : tie.Need-abs-requires
-abs-requires c κs = search needs
-
-divided-requires : tie.Need-divided-requires
-divided-requires c κs = search needs
-
 returns : tie.Need-returns
 unfolding normalisedBy
 returns c = let t = c .before in
@@ -26,4 +17,4 @@ returns-2 c = rw (← c .before .before .sum-of .ensures, ← c .before .abs .en
 
 pub normalised-spec : {M : Type 1} → statement M
 normalised-spec =
-    tie.close (tie.spec sum-of-requires abs-requires divided-requires returns returns-2)
+    tie.close (tie.spec (λ c κs. search needs) (λ c κs. search needs) (λ c κs. search needs) returns returns-2)

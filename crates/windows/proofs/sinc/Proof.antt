@@ -8,12 +8,9 @@ returns : tie.Need-returns
 unfolding sincOf
 returns c = rw (c .if1 .taken)
 
-sin-requires : tie.Need-sin-requires
-sin-requires c κs = search needs
-
 returns-2 : tie.Need-returns-2
 unfolding sincOf
 returns-2 c = rw (c .before .if1 .left, c .sin .ensures)
 
 pub sinc-spec : {M : Type 1} → statement M
-sinc-spec = tie.close (tie.spec returns sin-requires returns-2)
+sinc-spec = tie.close (tie.spec returns (λ c κs. search needs) returns-2)

@@ -10,21 +10,12 @@ use Rattle.windows.proofs.tap.Tie as tie
 int-to-float-i-f : tie.Need-int-to-float-i-f
 int-to-float-i-f c = small-float (c .before .args .i) (omega (arith, c .before .pre))
 
-sub-m : tie.Need-sub-m
-sub-m c = search needs
-
 int-to-float-m : tie.Need-int-to-float-m
 int-to-float-m c = small-float (c .before .before .args .taps - 1) (omega (arith, c .before .before .pre))
-
-sinc-requires : tie.Need-sinc-requires
-sinc-requires c κs = search needs
 
 int-to-float-window-weight : tie.Need-int-to-float-window-weight
 int-to-float-window-weight c = let s = c .before .before .before .before in
     small-float (s .args .taps) (omega (arith, s .pre))
-
-window-weight-requires : tie.Need-window-weight-requires
-window-weight-requires c κs = search needs
 
 returns : tie.Need-returns
 unfolding tapOf
@@ -35,9 +26,9 @@ tap-spec =
     tie.close
     (tie.spec
     int-to-float-i-f
-    sub-m
+    (λ c. search needs)
     int-to-float-m
-    sinc-requires
+    (λ c κs. search needs)
     int-to-float-window-weight
-    window-weight-requires
+    (λ c κs. search needs)
     returns)

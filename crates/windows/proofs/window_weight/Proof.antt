@@ -4,30 +4,6 @@ use borrow.Author.Needs.{needs}
 use Rattle.windows.proofs.window_weight.Statement.{statement}
 use Rattle.windows.proofs.window_weight.Tie as tie
 
-enum-told : tie.Need-enum-told
-enum-told c = search needs
-
-enum-told-2 : tie.Need-enum-told-2
-enum-told-2 c = search needs
-
-cos-requires : tie.Need-cos-requires
-cos-requires c κs = search needs
-
-enum-told-3 : tie.Need-enum-told-3
-enum-told-3 c = search needs
-
-cos-requires-2 : tie.Need-cos-requires-2
-cos-requires-2 c κs = search needs
-
-enum-told-4 : tie.Need-enum-told-4
-enum-told-4 c = search needs
-
-cos-requires-3 : tie.Need-cos-requires-3
-cos-requires-3 c κs = search needs
-
-cos-requires-4 : tie.Need-cos-requires-4
-cos-requires-4 c κs = search needs
-
 returns : tie.Need-returns
 unfolding weightOf
 returns c = rw (c .enum-told .given .1)
@@ -48,14 +24,14 @@ pub window-weight-spec : {M : Type 1} → statement M
 window-weight-spec =
     tie.close
     (tie.spec
-    enum-told
-    enum-told-2
-    cos-requires
-    enum-told-3
-    cos-requires-2
-    enum-told-4
-    cos-requires-3
-    cos-requires-4
+    (λ c. search needs)
+    (λ c. search needs)
+    (λ c κs. search needs)
+    (λ c. search needs)
+    (λ c κs. search needs)
+    (λ c. search needs)
+    (λ c κs. search needs)
+    (λ c κs. search needs)
     returns
     returns-2
     returns-3

@@ -26,21 +26,6 @@ loop-holds : tie.Need-loop-holds Inv-loop μ-loop
 unfolding upTo ofBits
 loop-holds c = (search needs, refl)
 
-tap-requires : tie.Need-tap-requires Inv-loop μ-loop
-tap-requires c κs = search needs
-
-mul-coeffs : tie.Need-mul-coeffs Inv-loop μ-loop
-mul-coeffs c = omega arith
-
-array-write-coeffs : tie.Need-array-write-coeffs Inv-loop μ-loop
-array-write-coeffs c = omega arith
-
-add-i : tie.Need-add-i Inv-loop μ-loop
-add-i c = omega arith
-
-loop-less : tie.Need-loop-less Inv-loop μ-loop
-loop-less c = omega arith
-
 loop-again : tie.Need-loop-again Inv-loop μ-loop
 loop-again c = let l = c .before .before in
     (omega arith, make-turn _ capacity _ (l .loop .i) (omega arith) (c .tap .ensures) (l .loop .inv .1))
@@ -57,10 +42,10 @@ windowed-spec =
     Inv-loop
     μ-loop
     loop-holds
-    tap-requires
-    mul-coeffs
-    array-write-coeffs
-    add-i
-    loop-less
+    (λ c κs. search needs)
+    (λ c. omega arith)
+    (λ c. omega arith)
+    (λ c. omega arith)
+    (λ c. omega arith)
     loop-again
     returns)

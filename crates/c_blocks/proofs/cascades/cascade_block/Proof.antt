@@ -35,54 +35,12 @@ accepted r = let a = start (else1 (else2 r)) .args in
 returns : tie.Need-returns
 returns c = block-not-single cascadeKind _ _ _ _ _ (c .if1 .taken)
 
-fits-requires : tie.Need-fits-requires
-fits-requires c κs = search needs
-
-same-length : tie.Need-same-length
-same-length c = search needs
-
-same-length-2 : tie.Need-same-length-2
-same-length-2 c = search needs
-
 returns-2 : tie.Need-returns-2
 returns-2 c = block-unfit cascadeKind _ _ _ _ _ (c .before .before .before .before .if1 .left) (sym (c .before .fits2 .ensures) ∙ not-true _ (c .if2 .taken))
-
-read-requires : tie.Need-read-requires
-read-requires c κs = search needs
-
-block-requires : tie.Need-block-requires
-block-requires c κs = search needs
-
-same-length-3 : tie.Need-same-length-3
-same-length-3 c = search needs
-
-same-length-4 : tie.Need-same-length-4
-same-length-4 c = search needs
-
-same-length-5 : tie.Need-same-length-5
-same-length-5 c = search needs
 
 returns-3 : tie.Need-returns-3
 returns-3 c = let r = c .before .before .before in
     block-refused cascadeKind _ _ _ _ _ (else1 (else2 r) .if1 .left) (accepted r) (c .if3 .taken)
-
-write-requires : tie.Need-write-requires
-write-requires c κs = search needs
-
-slice-write-clouded : tie.Need-slice-write-clouded
-slice-write-clouded c = search needs
-
-same-length-6 : tie.Need-same-length-6
-same-length-6 c = search needs
-
-same-length-7 : tie.Need-same-length-7
-same-length-7 c = search needs
-
-same-length-8 : tie.Need-same-length-8
-same-length-8 c = search needs
-
-same-length-9 : tie.Need-same-length-9
-same-length-9 c = search needs
 
 returns-4 : tie.Need-returns-4
 returns-4 c = let r = c .before .before .before .before .before .before .before .before .before .before in
@@ -96,20 +54,20 @@ cascade-block-spec =
     tie.close
     (tie.spec
     returns
-    fits-requires
-    same-length
-    same-length-2
+    (λ c κs. search needs)
+    (λ c. search needs)
+    (λ c. search needs)
     returns-2
-    read-requires
-    block-requires
-    same-length-3
-    same-length-4
-    same-length-5
+    (λ c κs. search needs)
+    (λ c κs. search needs)
+    (λ c. search needs)
+    (λ c. search needs)
+    (λ c. search needs)
     returns-3
-    write-requires
-    slice-write-clouded
-    same-length-6
-    same-length-7
-    same-length-8
-    same-length-9
+    (λ c κs. search needs)
+    (λ c. search needs)
+    (λ c. search needs)
+    (λ c. search needs)
+    (λ c. search needs)
+    (λ c. search needs)
     returns-4)

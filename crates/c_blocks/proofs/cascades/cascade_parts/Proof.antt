@@ -49,12 +49,6 @@ loop-holds c =
     let a = start .args in
     (refl, refl, refl, parts-start cascadeKind cascade-read-back (a .numbers .now) (a .counts .now) (a .buffer .now) (a .clouded .now) (start .pre))
 
-part-end-requires : tie.Need-part-end-requires Inv-loop μ-loop
-part-end-requires c κs = omega arith
-
-mul-part : tie.Need-mul-cascade-part Inv-loop μ-loop
-mul-part c = search needs
-
 sub-part : tie.Need-sub-cascade-part Inv-loop μ-loop
 sub-part c = let ended : tie.After-part-end Inv-loop μ-loop = search in omega (arith, ended .part-end .ensures)
 
@@ -98,9 +92,6 @@ same-length-2 c = c .before .loop .inv .1
 same-length-3 : tie.Need-same-length-3 Inv-loop μ-loop
 same-length-3 c = c .before .loop .inv .3 .place .running .same
 
-same-length-4 : tie.Need-same-length-4 Inv-loop μ-loop
-same-length-4 c = search needs
-
 pub cascade-parts-spec : {M : Type 1} → statement M
 cascade-parts-spec =
     tie.close
@@ -108,8 +99,8 @@ cascade-parts-spec =
     Inv-loop
     μ-loop
     loop-holds
-    part-end-requires
-    mul-part
+    (λ c κs. omega arith)
+    (λ c. search needs)
     sub-part
     part-start
     part-ends
@@ -122,5 +113,5 @@ cascade-parts-spec =
     same-length
     same-length-2
     same-length-3
-    same-length-4
+    (λ c. search needs)
     returns)

@@ -16,45 +16,9 @@ returns-2 : tie.Need-returns-2
 returns-2 c = let a = start (c .before) .args in
     block-unfit (firKind (a .taps .now)) (a .samples .now) (a .counts .now) _ _ _ (c .before .if1 .left) (uncounted (a .taps .now) (a .samples .now) (a .counts .now) (c .if2 .taken))
 
-slice-read-block : tie.Need-slice-read-block
-slice-read-block c = search needs
-
-slice-read-block-2 : tie.Need-slice-read-block-2
-slice-read-block-2 c = search needs
-
-slice-read-block-3 : tie.Need-slice-read-block-3
-slice-read-block-3 c = search needs
-
-block-requires : tie.Need-block-requires
-block-requires c κs = search needs
-
-same-length : tie.Need-same-length
-same-length c = search needs
-
-same-length-2 : tie.Need-same-length-2
-same-length-2 c = search needs
-
 returns-3 : tie.Need-returns-3
 returns-3 c = let a = start (c .before .before .before .before .before .before .before .before .before .before .before .before) .args in
     fir-block-refused (a .taps .now) (a .samples .now) (a .counts .now) (c .before .before .before .before .before .before .before .before .before .before .before .if2 .left) (a .input .now) (a .output .now) (a .clouded .now) (c .before .before .before .before .before .before .before .before .before .before .before .before .if1 .left) (c .before .before .before .before .before .block .ensures) (c .if3 .taken)
-
-slice-write-counts : tie.Need-slice-write-counts
-slice-write-counts c = search needs
-
-slice-write-clouded : tie.Need-slice-write-clouded
-slice-write-clouded c = search needs
-
-same-length-3 : tie.Need-same-length-3
-same-length-3 c = search needs
-
-same-length-4 : tie.Need-same-length-4
-same-length-4 c = search needs
-
-same-length-5 : tie.Need-same-length-5
-same-length-5 c = search needs
-
-same-length-6 : tie.Need-same-length-6
-same-length-6 c = search needs
 
 returns-4 : tie.Need-returns-4
 returns-4 c = let a = start (c .before .before .before .before .before .before .before .before .before .before .before .before) .args in
@@ -67,17 +31,17 @@ fir-block-spec =
     (tie.spec
     returns
     returns-2
-    slice-read-block
-    slice-read-block-2
-    slice-read-block-3
-    block-requires
-    same-length
-    same-length-2
+    (λ c. search needs)
+    (λ c. search needs)
+    (λ c. search needs)
+    (λ c κs. search needs)
+    (λ c. search needs)
+    (λ c. search needs)
     returns-3
-    slice-write-counts
-    slice-write-clouded
-    same-length-3
-    same-length-4
-    same-length-5
-    same-length-6
+    (λ c. search needs)
+    (λ c. search needs)
+    (λ c. search needs)
+    (λ c. search needs)
+    (λ c. search needs)
+    (λ c. search needs)
     returns-4)

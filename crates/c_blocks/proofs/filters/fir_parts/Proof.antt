@@ -52,12 +52,6 @@ loop-holds c =
     let a = start .args in
     (refl, refl, refl, parts-start (firKind (a .taps .now)) (fir-read-back (a .taps .now)) (a .samples .now) (a .counts .now) (a .buffer .now) (a .clouded .now) (start .pre))
 
-part-end-requires : tie.Need-part-end-requires Inv-loop μ-loop
-part-end-requires c κs = omega arith
-
-mul-part : tie.Need-mul-fir-part Inv-loop μ-loop
-mul-part c = search needs
-
 sub-part : tie.Need-sub-fir-part Inv-loop μ-loop
 sub-part c = let ended : tie.After-part-end Inv-loop μ-loop = search in omega (arith, ended .part-end .ensures)
 
@@ -101,9 +95,6 @@ same-length-2 c = c .before .loop .inv .1
 same-length-3 : tie.Need-same-length-3 Inv-loop μ-loop
 same-length-3 c = c .before .loop .inv .3 .place .running .same
 
-same-length-4 : tie.Need-same-length-4 Inv-loop μ-loop
-same-length-4 c = search needs
-
 pub fir-parts-spec : {M : Type 1} → statement M
 fir-parts-spec =
     tie.close
@@ -111,8 +102,8 @@ fir-parts-spec =
     Inv-loop
     μ-loop
     loop-holds
-    part-end-requires
-    mul-part
+    (λ c κs. omega arith)
+    (λ c. search needs)
     sub-part
     part-start
     part-ends
@@ -125,5 +116,5 @@ fir-parts-spec =
     same-length
     same-length-2
     same-length-3
-    same-length-4
+    (λ c. search needs)
     returns)

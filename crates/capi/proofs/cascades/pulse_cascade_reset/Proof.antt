@@ -27,41 +27,11 @@ accepted : (r : tie.After-reset) → let a = start (else1 r) .args in
 accepted r = let a = start (else1 r) .args in
     lend-reset cascadeKind (a .numbers .now) (a .counts .now) (fit (else1 r)) (read-is _ _ (fit (else1 r)) (r .before .read .ensures)) (r .reset .ensures)
 
-fits-requires : tie.Need-fits-requires
-fits-requires c κs = search needs
-
-same-length : tie.Need-same-length
-same-length c = search needs
-
-same-length-2 : tie.Need-same-length-2
-same-length-2 c = search needs
-
 returns : tie.Need-returns
 returns c = reset-unfit cascadeKind _ _ (sym (c .before .fits2 .ensures) ∙ not-true _ (c .if1 .taken))
 
-read-requires : tie.Need-read-requires
-read-requires c κs = search needs
-
-reset-requires : tie.Need-reset-requires
-reset-requires c κs = search needs
-
-same-length-3 : tie.Need-same-length-3
-same-length-3 c = search needs
-
-same-length-4 : tie.Need-same-length-4
-same-length-4 c = search needs
-
 returns-2 : tie.Need-returns-2
 returns-2 c = reset-refused cascadeKind _ _ (accepted (c .before)) (c .if2 .taken)
-
-write-requires : tie.Need-write-requires
-write-requires c κs = search needs
-
-same-length-5 : tie.Need-same-length-5
-same-length-5 c = search needs
-
-same-length-6 : tie.Need-same-length-6
-same-length-6 c = search needs
 
 returns-3 : tie.Need-returns-3
 returns-3 c = let w = c .before .before .before .before .write .ensures in
@@ -73,16 +43,16 @@ pub pulse-cascade-reset-spec : {M : Type 1} → statement M
 pulse-cascade-reset-spec =
     tie.close
     (tie.spec
-    fits-requires
-    same-length
-    same-length-2
+    (λ c κs. search needs)
+    (λ c. search needs)
+    (λ c. search needs)
     returns
-    read-requires
-    reset-requires
-    same-length-3
-    same-length-4
+    (λ c κs. search needs)
+    (λ c κs. search needs)
+    (λ c. search needs)
+    (λ c. search needs)
     returns-2
-    write-requires
-    same-length-5
-    same-length-6
+    (λ c κs. search needs)
+    (λ c. search needs)
+    (λ c. search needs)
     returns-3)

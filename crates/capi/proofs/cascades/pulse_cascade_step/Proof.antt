@@ -35,78 +35,18 @@ accepted : (r : tie.After-refusal-of) → let a = start (else1 (else2 r)) .args 
 accepted r = let a = start (else1 (else2 r)) .args in
     lend-step cascadeKind (a .numbers .now) (a .counts .now) (fit (else2 r)) (read-is _ _ (fit (else2 r)) (r .before .before .read .ensures)) (a .x) (r .before .update .ensures)
 
-single-requires : tie.Need-single-requires
-single-requires c κs = search needs
-
-same-length : tie.Need-same-length
-same-length c = search needs
-
-same-length-2 : tie.Need-same-length-2
-same-length-2 c = search needs
-
 returns : tie.Need-returns
 returns c = step-not-single cascadeKind _ _ _ _ _ (sym (c .before .single .ensures) ∙ not-true _ (c .if1 .taken))
 
-fits-requires : tie.Need-fits-requires
-fits-requires c κs = search needs
-
-same-length-3 : tie.Need-same-length-3
-same-length-3 c = search needs
-
-same-length-4 : tie.Need-same-length-4
-same-length-4 c = search needs
-
-same-length-5 : tie.Need-same-length-5
-same-length-5 c = search needs
-
-same-length-6 : tie.Need-same-length-6
-same-length-6 c = search needs
-
 returns-2 : tie.Need-returns-2
 returns-2 c = step-unfit cascadeKind _ _ _ _ _ (one (c .before .before .before .before)) (sym (c .before .fits2 .ensures) ∙ not-true _ (c .if2 .taken))
-
-read-requires : tie.Need-read-requires
-read-requires c κs = search needs
-
-update-requires : tie.Need-update-requires
-update-requires c κs = search needs
-
-refusal-of-requires : tie.Need-refusal-of-requires
-refusal-of-requires c κs = search needs
-
-same-length-7 : tie.Need-same-length-7
-same-length-7 c = search needs
-
-same-length-8 : tie.Need-same-length-8
-same-length-8 c = search needs
-
-same-length-9 : tie.Need-same-length-9
-same-length-9 c = search needs
-
-same-length-10 : tie.Need-same-length-10
-same-length-10 c = search needs
 
 returns-3 : tie.Need-returns-3
 returns-3 c = let r = c .before in
     step-refused cascadeKind _ _ _ _ _ (one (else1 (else2 r))) (accepted r) (r .refusal-of .ensures) (c .if3 .taken)
 
-write-requires : tie.Need-write-requires
-write-requires c κs = search needs
-
 put-requires : tie.Need-put-requires
 put-requires c κs = let e = c .before .before .before .before .before .before .before .before .before .before .before .before .before .before .before .before .before .before .before in single-lengths (start e .args .answer .now) (start e .args .clouded .now) (one e)
-
-same-length-11 : tie.Need-same-length-11
-same-length-11 c = search needs
-
-same-length-12 : tie.Need-same-length-12
-same-length-12 c = search needs
-
-same-length-13 : tie.Need-same-length-13
-same-length-13 c = search needs
-
-same-length-14 : tie.Need-same-length-14
-same-length-14 c = search needs
 
 returns-4 : tie.Need-returns-4
 returns-4 c = let r = c .before .before .before .before .before .before .before .before .before .before .before .before .before .before .before in
@@ -119,28 +59,28 @@ pub pulse-cascade-step-spec : {M : Type 1} → statement M
 pulse-cascade-step-spec =
     tie.close
     (tie.spec
-    single-requires
-    same-length
-    same-length-2
+    (λ c κs. search needs)
+    (λ c. search needs)
+    (λ c. search needs)
     returns
-    fits-requires
-    same-length-3
-    same-length-4
-    same-length-5
-    same-length-6
+    (λ c κs. search needs)
+    (λ c. search needs)
+    (λ c. search needs)
+    (λ c. search needs)
+    (λ c. search needs)
     returns-2
-    read-requires
-    update-requires
-    refusal-of-requires
-    same-length-7
-    same-length-8
-    same-length-9
-    same-length-10
+    (λ c κs. search needs)
+    (λ c κs. search needs)
+    (λ c κs. search needs)
+    (λ c. search needs)
+    (λ c. search needs)
+    (λ c. search needs)
+    (λ c. search needs)
     returns-3
-    write-requires
+    (λ c κs. search needs)
     put-requires
-    same-length-11
-    same-length-12
-    same-length-13
-    same-length-14
+    (λ c. search needs)
+    (λ c. search needs)
+    (λ c. search needs)
+    (λ c. search needs)
     returns-4)

@@ -3,22 +3,10 @@ use borrow.Author.Needs.{needs}
 use Rattle.capi.proofs.design.pulse_design_chebyshev2_lp.Statement.{statement}
 use Rattle.capi.proofs.design.pulse_design_chebyshev2_lp.Tie as tie
 
-design-chebyshev2-lp-requires : tie.Need-design-chebyshev2-lp-requires
-design-chebyshev2-lp-requires c κs = search needs
-
-hand-out-requires : tie.Need-hand-out-requires
-hand-out-requires c κs = search needs
-
-same-length : tie.Need-same-length
-same-length c = search needs
-
-same-length-2 : tie.Need-same-length-2
-same-length-2 c = search needs
-
 returns : tie.Need-returns
 returns c = rw (← c .before .before .before .before .before .before .before .design-chebyshev2-lp .ensures) (c .before .before .before .before .hand-out .ensures)
 
 pub pulse-design-chebyshev2-lp-spec : {M : Type 1} → statement M
 pulse-design-chebyshev2-lp-spec =
     tie.close
-    (tie.spec design-chebyshev2-lp-requires hand-out-requires same-length same-length-2 returns)
+    (tie.spec (λ c κs. search needs) (λ c κs. search needs) (λ c. search needs) (λ c. search needs) returns)

@@ -9,24 +9,6 @@ returns : tie.Need-returns
 unfolding firCall
 returns c = rw (lt-leb _ _ (c .if1 .taken))
 
-window-of-requires : tie.Need-window-of-requires
-window-of-requires c κs = search needs
-
-design-fir-lp-requires : tie.Need-design-fir-lp-requires
-design-fir-lp-requires c κs = search needs
-
-hand-out-taps-requires : tie.Need-hand-out-taps-requires
-hand-out-taps-requires c κs = search needs
-
-same-length : tie.Need-same-length
-same-length c = search needs
-
-same-length-2 : tie.Need-same-length-2
-same-length-2 c = search needs
-
-same-length-3 : tie.Need-same-length-3
-same-length-3 c = search needs
-
 returns-2 : tie.Need-returns-2
 unfolding firCall
 returns-2 c = rw (le-leb _ _ (c .before .before .before .before .before .before .before .before .before .before .before .before .if1 .left), ← c .before .before .before .before .before .before .before .before .before .before .before .window-of .ensures, ← c .before .before .before .before .before .before .before .before .before .before .design-fir-lp .ensures) (c .before .before .before .before .before .before .hand-out-taps .ensures)
@@ -36,10 +18,10 @@ pulse-design-fir-lp-spec =
     tie.close
     (tie.spec
     returns
-    window-of-requires
-    design-fir-lp-requires
-    hand-out-taps-requires
-    same-length
-    same-length-2
-    same-length-3
+    (λ c κs. search needs)
+    (λ c κs. search needs)
+    (λ c κs. search needs)
+    (λ c. search needs)
+    (λ c. search needs)
+    (λ c. search needs)
     returns-2)

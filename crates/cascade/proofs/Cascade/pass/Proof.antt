@@ -8,12 +8,6 @@ use borrow.Author.Needs.{needs}
 use Rattle.cascade.proofs.Cascade.pass.Statement.{statement}
 use Rattle.cascade.proofs.Cascade.pass.Tie as tie
 
-moved-requires : tie.Need-moved-requires
-moved-requires c κs = search needs
-
-clouds-requires : tie.Need-clouds-requires
-clouds-requires c κs = search needs
-
 returns : tie.Need-returns
 unfolding next mark
 returns c = let s = c .before .before .before in
@@ -22,4 +16,4 @@ returns c = let s = c .before .before .before in
     (m .0, ap₂ flagged (c .clouds .ensures ∙ ap₂ (λ (y : Float) (a : CascadeRecord). s .args .self .clouded || clouding b (s .args .x) y a) (m .0) (m .1)) (m .1))
 
 pub pass-spec : {M : Type 1} → statement M
-pass-spec = tie.close (tie.spec moved-requires clouds-requires returns)
+pass-spec = tie.close (tie.spec (λ c κs. search needs) (λ c κs. search needs) returns)

@@ -21,39 +21,12 @@ abbrev μ-loop : tie.MeasureT-loop
 loop-holds : tie.Need-loop-holds Inv-loop μ-loop
 loop-holds c = let p = c .before .before .pre in run-start (cascade binary64) (check-next binary64) _ _ _ (p .1) (p .0)
 
-mul-pass : tie.Need-mul-pass Inv-loop μ-loop
-mul-pass c = search needs
-
-shared-slice-read-pass : tie.Need-shared-slice-read-pass Inv-loop μ-loop
-shared-slice-read-pass c = search needs
-
-pass-requires : tie.Need-pass-requires Inv-loop μ-loop
-pass-requires c κs = search needs
-
-mul-output : tie.Need-mul-output Inv-loop μ-loop
-mul-output c = search needs
-
-slice-write-output : tie.Need-slice-write-output Inv-loop μ-loop
-slice-write-output c = omega arith
-
-add-clouded : tie.Need-add-clouded Inv-loop μ-loop
-add-clouded c = omega arith
-
-add-i : tie.Need-add-i Inv-loop μ-loop
-add-i c = search needs
-
-loop-less : tie.Need-loop-less Inv-loop μ-loop
-loop-less c = search needs
-
 loop-again : tie.Need-loop-again Inv-loop μ-loop
 loop-again c =
     let p = c .before .before .pass .ensures in
     run-turn (cascade binary64) (check-next binary64) _ _ _ (omega arith) (p .0) (mark-next binary64 _ _ (p .1)) (p .1)
     (⊎-elim (λ w. rw (w .0 .taken) (w .1)) (λ w. rw (w .0 .left) (w .1)) (c .if1 .came))
     (c .before .before .before .before .before .loop .inv)
-
-same-length : tie.Need-same-length Inv-loop μ-loop
-same-length c = omega arith
 
 returns : tie.Need-returns Inv-loop μ-loop
 returns c = let p = c .before .before .before .before .pre in run-done (cascade binary64) (check-next binary64) _ _ _ (c .loop-test .left) (p .0) (p .1) (c .before .loop .inv)
@@ -65,14 +38,14 @@ plain-block-spec =
     Inv-loop
     μ-loop
     loop-holds
-    mul-pass
-    shared-slice-read-pass
-    pass-requires
-    mul-output
-    slice-write-output
-    add-clouded
-    add-i
-    loop-less
+    (λ c. search needs)
+    (λ c. search needs)
+    (λ c κs. search needs)
+    (λ c. search needs)
+    (λ c. omega arith)
+    (λ c. omega arith)
+    (λ c. search needs)
+    (λ c. search needs)
     loop-again
-    same-length
+    (λ c. omega arith)
     returns)

@@ -8,17 +8,8 @@ use borrow.Author.Needs.{needs}
 use Rattle.cascade.proofs.Cascade.reset.Statement.{statement}
 use Rattle.cascade.proofs.Cascade.reset.Tie as tie
 
-check-requires : tie.Need-check-requires
-check-requires c κs = search needs
-
 returns : tie.Need-returns
 returns c = reset-refused (cascade binary64) _ (sym (c .before .check .ensures) ∙ not-true _ (c .if1 .taken))
-
-reset-sections-requires : tie.Need-reset-sections-requires
-reset-sections-requires c κs = search needs
-
-reset-requires : tie.Need-reset-requires
-reset-requires c κs = search needs
 
 returns-2 : tie.Need-returns-2
 unfolding clearedCascade
@@ -27,4 +18,4 @@ returns-2 c = let e = c .before .before .before .before in
 
 pub reset-spec : {M : Type 1} → statement M
 reset-spec =
-    tie.close (tie.spec check-requires returns reset-sections-requires reset-requires returns-2)
+    tie.close (tie.spec (λ c κs. search needs) returns (λ c κs. search needs) (λ c κs. search needs) returns-2)

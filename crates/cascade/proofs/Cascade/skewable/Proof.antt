@@ -19,9 +19,6 @@ returns-3 c = λ e. absurd (false≢true e)
 returns-4 : tie.Need-returns-4
 returns-4 c = λ e. absurd (false≢true e)
 
-not-all-finite-requires : tie.Need-not-all-finite-requires
-not-all-finite-requires c κs = search needs
-
 returns-5 : tie.Need-returns-5
 returns-5 c = λ e. let d = c .before in
     record {
@@ -34,4 +31,4 @@ returns-5 c = λ e. let d = c .before in
 
 pub skewable-spec : {M : Type 1} → statement M
 skewable-spec =
-    tie.close (tie.spec returns returns-2 returns-3 returns-4 not-all-finite-requires returns-5)
+    tie.close (tie.spec returns returns-2 returns-3 returns-4 (λ c κs. search needs) returns-5)

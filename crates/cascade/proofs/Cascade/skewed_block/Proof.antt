@@ -5,15 +5,6 @@ use borrow.Author.Needs.{needs}
 use Rattle.cascade.proofs.Cascade.skewed_block.Statement.{statement}
 use Rattle.cascade.proofs.Cascade.skewed_block.Tie as tie
 
-by-name-requires : tie.Need-by-name-requires
-by-name-requires c κs = search needs
-
-run-requires : tie.Need-run-requires
-run-requires c κs = search needs
-
-same-length : tie.Need-same-length
-same-length c = search needs
-
 returns : tie.Need-returns
 returns c = let r = c .before .before .before .before .before .before .before in
     let n = r .before .before in
@@ -21,4 +12,4 @@ returns c = let r = c .before .before .before .before .before .before .before in
     block-skewed binary64 _ _ _ (n .by-name .ensures) (p .0) (p .1) (r .run .ensures)
 
 pub skewed-block-spec : {M : Type 1} → statement M
-skewed-block-spec = tie.close (tie.spec by-name-requires run-requires same-length returns)
+skewed-block-spec = tie.close (tie.spec (λ c κs. search needs) (λ c κs. search needs) (λ c. search needs) returns)

@@ -10,14 +10,8 @@ use borrow.Author.Needs.{needs}
 use Rattle.cascade.proofs.Cascade.update.Statement.{statement}
 use Rattle.cascade.proofs.Cascade.update.Tie as tie
 
-check-requires : tie.Need-check-requires
-check-requires c κs = search needs
-
 returns : tie.Need-returns
 returns c = step-refused (cascade binary64) _ _ (sym (c .before .check .ensures) ∙ not-true _ (c .if1 .taken))
-
-pass-requires : tie.Need-pass-requires
-pass-requires c κs = search needs
 
 returns-2 : tie.Need-returns-2
 returns-2 c = let b = c .before .before .before in
@@ -30,4 +24,4 @@ returns-3 c = let b = c .before .before .before in
     step-answered (cascade binary64) _ _ (sym (b .before .check .ensures) ∙ not-false _ (b .if1 .left)) (answer-is binary64 _ _ false (p .0) (p .1) (c .if2 .left)) (p .1)
 
 pub update-spec : {M : Type 1} → statement M
-update-spec = tie.close (tie.spec check-requires returns pass-requires returns-2 returns-3)
+update-spec = tie.close (tie.spec (λ c κs. search needs) returns (λ c κs. search needs) returns-2 returns-3)

@@ -8,23 +8,8 @@ use borrow.Author.Needs.{needs}
 use Rattle.designs.proofs.butterworth.angle.Statement.{statement}
 use Rattle.designs.proofs.butterworth.angle.Tie as tie
 
-add-result : tie.Need-add-result
-add-result c = search needs
-
-mul-result : tie.Need-mul-result
-mul-result c = search needs
-
-add-result-2 : tie.Need-add-result-2
-add-result-2 c = search needs
-
-sub-result : tie.Need-sub-result
-sub-result c = search needs
-
 int-to-float-result : tie.Need-int-to-float-result
 int-to-float-result c = let a = c .before .args in let h = c .before .pre .1 .0 in let k = c .before .pre .1 .1 in small-float (2 * (a .m + 1) + a .order - 1) (omega arith)
-
-mul-result-2 : tie.Need-mul-result-2
-mul-result-2 c = search needs
 
 int-to-float-result-2 : tie.Need-int-to-float-result-2
 int-to-float-result-2 c = let a = c .before .before .args in let h = c .before .before .pre .1 .0 in small-float (2 * a .order) (omega arith)
@@ -37,11 +22,11 @@ pub angle-spec : {M : Type 1} → statement M
 angle-spec =
     tie.close
     (tie.spec
-    add-result
-    mul-result
-    add-result-2
-    sub-result
+    (λ c. search needs)
+    (λ c. search needs)
+    (λ c. search needs)
+    (λ c. search needs)
     int-to-float-result
-    mul-result-2
+    (λ c. search needs)
     int-to-float-result-2
     returns)

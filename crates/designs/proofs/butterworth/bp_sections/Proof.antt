@@ -11,24 +11,9 @@ use Rattle.designs.proofs.Places.{place, band-length}
 use Rattle.designs.proofs.butterworth.bp_sections.Statement.{statement}
 use Rattle.designs.proofs.butterworth.bp_sections.Tie as tie
 
-bp-sections-from-pairs-requires : tie.Need-bp-sections-from-pairs-requires
-bp-sections-from-pairs-requires c κs = search needs
-
 returns : tie.Need-returns
 unfolding bpSections
 returns c = rw (eq-eqb _ _ (c .if1 .taken)) (c .before .bp-sections-from-pairs .ensures)
-
-bp-biquad-from-lp-real-pole-requires : tie.Need-bp-biquad-from-lp-real-pole-requires
-bp-biquad-from-lp-real-pole-requires c κs = search needs
-
-sub-sections : tie.Need-sub-sections
-sub-sections c = search needs
-
-mul-sections : tie.Need-mul-sections
-mul-sections c = search needs
-
-array-set-from-sections : tie.Need-array-set-from-sections
-array-set-from-sections c = search needs
 
 returns-2 : tie.Need-returns-2
 unfolding bpSections
@@ -44,10 +29,10 @@ pub bp-sections-spec : {M : Type 1} → statement M
 bp-sections-spec =
     tie.close
     (tie.spec
-    bp-sections-from-pairs-requires
+    (λ c κs. search needs)
     returns
-    bp-biquad-from-lp-real-pole-requires
-    sub-sections
-    mul-sections
-    array-set-from-sections
+    (λ c κs. search needs)
+    (λ c. search needs)
+    (λ c. search needs)
+    (λ c. search needs)
     returns-2)

@@ -19,9 +19,6 @@ Inv-loop order bw omega0-sq sections₀ m₀ sections m = (map sectionView secti
 abbrev μ-loop : tie.MeasureT-loop
 μ-loop order bw omega0-sq sections₀ m₀ sections m = order / 2 - m
 
-blank-requires : tie.Need-blank-requires Inv-loop μ-loop
-blank-requires c κs = search needs
-
 loop-holds : tie.Need-loop-holds Inv-loop μ-loop
 loop-holds c = let a = c .before .args in
     (rw (c .blank .ensures) (band-none (a .order) (a .bw) (a .omega0-sq)), omega arith)
@@ -55,9 +52,6 @@ array-set-from-sections-2 c = let h = c .before .before .before .before .before 
 add-m : tie.Need-add-m Inv-loop μ-loop
 add-m c = let h = c .before .before .before .before .before .before .pre .1 in omega arith
 
-loop-less : tie.Need-loop-less Inv-loop μ-loop
-loop-less c = omega arith
-
 loop-again : tie.Need-loop-again Inv-loop μ-loop
 loop-again c = let l = c .before .before .before .before .loop in
     let s = c .before .before .before .before .before .before in
@@ -80,7 +74,7 @@ bp-sections-from-pairs-spec =
     (tie.spec
     Inv-loop
     μ-loop
-    blank-requires
+    (λ c κs. search needs)
     loop-holds
     bp-pair-requires
     mul-sections
@@ -91,6 +85,6 @@ bp-sections-from-pairs-spec =
     mul-sections-4
     array-set-from-sections-2
     add-m
-    loop-less
+    (λ c. omega arith)
     loop-again
     returns)

@@ -8,22 +8,10 @@ use borrow.Author.Needs.{needs}
 use Rattle.designs.proofs.butterworth.design_butterworth_bp.Statement.{statement}
 use Rattle.designs.proofs.butterworth.design_butterworth_bp.Tie as tie
 
-validate-band-requires : tie.Need-validate-band-requires
-validate-band-requires c κs = search needs
-
-refused-requires : tie.Need-refused-requires
-refused-requires c κs = search needs
-
 returns : tie.Need-returns
 unfolding butterworthBp
 returns c = let v = c .before .before .validate-band in
     c .refused .ensures ∙ ap refusedDesign (v .ensures) ∙ is-refused _ _ (λ e. c .before .if1 .taken (v .ensures ∙ e))
-
-warp-requires : tie.Need-warp-requires
-warp-requires c κs = search needs
-
-warp-requires-2 : tie.Need-warp-requires-2
-warp-requires-2 c κs = search needs
 
 bp-cascade-requires : tie.Need-bp-cascade-requires
 bp-cascade-requires c κs = let s = c .before .before .before .before in
@@ -40,10 +28,10 @@ pub design-butterworth-bp-spec : {M : Type 1} → statement M
 design-butterworth-bp-spec =
     tie.close
     (tie.spec
-    validate-band-requires
-    refused-requires
+    (λ c κs. search needs)
+    (λ c κs. search needs)
     returns
-    warp-requires
-    warp-requires-2
+    (λ c κs. search needs)
+    (λ c κs. search needs)
     bp-cascade-requires
     returns-2)

@@ -10,19 +10,10 @@ use borrow.Author.Needs.{needs}
 use Rattle.designs.proofs.butterworth.design_butterworth_hp.Statement.{statement}
 use Rattle.designs.proofs.butterworth.design_butterworth_hp.Tie as tie
 
-validate-params-requires : tie.Need-validate-params-requires
-validate-params-requires c κs = search needs
-
-refused-requires : tie.Need-refused-requires
-refused-requires c κs = search needs
-
 returns : tie.Need-returns
 unfolding butterworthHp
 returns c = let v = c .before .before .validate-params in
     c .refused .ensures ∙ ap refusedDesign (v .ensures) ∙ is-refused _ _ (λ e. c .before .if1 .taken (v .ensures ∙ e))
-
-warp-requires : tie.Need-warp-requires
-warp-requires c κs = search needs
 
 design-from-prototype-requires : tie.Need-design-from-prototype-requires
 design-from-prototype-requires c κs = let s = c .before .before .before in
@@ -40,9 +31,9 @@ pub design-butterworth-hp-spec : {M : Type 1} → statement M
 design-butterworth-hp-spec =
     tie.close
     (tie.spec
-    validate-params-requires
-    refused-requires
+    (λ c κs. search needs)
+    (λ c κs. search needs)
     returns
-    warp-requires
+    (λ c κs. search needs)
     design-from-prototype-requires
     returns-2)

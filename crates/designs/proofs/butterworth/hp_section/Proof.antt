@@ -4,18 +4,6 @@ use borrow.Author.Needs.{needs}
 use Rattle.designs.proofs.butterworth.hp_section.Statement.{statement}
 use Rattle.designs.proofs.butterworth.hp_section.Tie as tie
 
-angle-requires : tie.Need-angle-requires
-angle-requires c κs = search needs
-
-cos-requires : tie.Need-cos-requires
-cos-requires c κs = search needs
-
-sin-requires : tie.Need-sin-requires
-sin-requires c κs = search needs
-
-hp-biquad-from-pole-requires : tie.Need-hp-biquad-from-pole-requires
-hp-biquad-from-pole-requires c κs = search needs
-
 returns : tie.Need-returns
 unfolding hpPair
 returns c = rw (c .hp-biquad-from-pole .ensures, c .before .sin .ensures, c .before .before .cos .ensures, c .before .before .before .angle .ensures)
@@ -23,4 +11,4 @@ returns c = rw (c .hp-biquad-from-pole .ensures, c .before .sin .ensures, c .bef
 pub hp-section-spec : {M : Type 1} → statement M
 hp-section-spec =
     tie.close
-    (tie.spec angle-requires cos-requires sin-requires hp-biquad-from-pole-requires returns)
+    (tie.spec (λ c κs. search needs) (λ c κs. search needs) (λ c κs. search needs) (λ c κs. search needs) returns)

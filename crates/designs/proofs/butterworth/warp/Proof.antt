@@ -4,12 +4,9 @@ use borrow.Author.Needs.{needs}
 use Rattle.designs.proofs.butterworth.warp.Statement.{statement}
 use Rattle.designs.proofs.butterworth.warp.Tie as tie
 
-tan-requires : tie.Need-tan-requires
-tan-requires c κs = search needs
-
 returns : tie.Need-returns
 unfolding warped
 returns c = c .tan .ensures
 
 pub warp-spec : {M : Type 1} → statement M
-warp-spec = tie.close (tie.spec tan-requires returns)
+warp-spec = tie.close (tie.spec (λ c κs. search needs) returns)

@@ -7,15 +7,9 @@ use borrow.Author.Needs.{needs}
 use Rattle.designs.proofs.chebyshev.cheb1_section.Statement.{statement}
 use Rattle.designs.proofs.chebyshev.cheb1_section.Tie as tie
 
-pole-pair-requires : tie.Need-pole-pair-requires
-pole-pair-requires c κs = search needs
-
-cheb1-lp-biquad-requires : tie.Need-cheb1-lp-biquad-requires
-cheb1-lp-biquad-requires c κs = search needs
-
 returns : tie.Need-returns
 unfolding cheb1Pair
 returns c = c .cheb1-lp-biquad .ensures ∙ ap (λ (p : PolePairRecord). cheb1Biquad (p .sigma) (p .omega) (c .before .before .args .k)) (c .before .pole-pair .ensures)
 
 pub cheb1-section-spec : {M : Type 1} → statement M
-cheb1-section-spec = tie.close (tie.spec pole-pair-requires cheb1-lp-biquad-requires returns)
+cheb1-section-spec = tie.close (tie.spec (λ c κs. search needs) (λ c κs. search needs) returns)

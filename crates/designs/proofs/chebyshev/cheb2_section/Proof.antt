@@ -11,15 +11,6 @@ use borrow.Author.Needs.{needs}
 use Rattle.designs.proofs.chebyshev.cheb2_section.Statement.{statement}
 use Rattle.designs.proofs.chebyshev.cheb2_section.Tie as tie
 
-pole-pair-requires : tie.Need-pole-pair-requires
-pole-pair-requires c κs = search needs
-
-abs-requires : tie.Need-abs-requires
-abs-requires c κs = search needs
-
-cheb2-lp-biquad-requires : tie.Need-cheb2-lp-biquad-requires
-cheb2-lp-biquad-requires c κs = search needs
-
 returns : tie.Need-returns
 unfolding cheb2Pair
 returns c = let d = c .before .before .before .before .before .before in
@@ -31,4 +22,4 @@ returns c = let d = c .before .before .before .before .before .before in
 
 pub cheb2-section-spec : {M : Type 1} → statement M
 cheb2-section-spec =
-    tie.close (tie.spec pole-pair-requires abs-requires cheb2-lp-biquad-requires returns)
+    tie.close (tie.spec (λ c κs. search needs) (λ c κs. search needs) (λ c κs. search needs) returns)

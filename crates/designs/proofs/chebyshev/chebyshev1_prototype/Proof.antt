@@ -6,20 +6,8 @@ use borrow.Author.Needs.{needs}
 use Rattle.designs.proofs.chebyshev.chebyshev1_prototype.Statement.{statement}
 use Rattle.designs.proofs.chebyshev.chebyshev1_prototype.Tie as tie
 
-epsilon-requires : tie.Need-epsilon-requires
-epsilon-requires c κs = search needs
-
-arcsinh-requires : tie.Need-arcsinh-requires
-arcsinh-requires c κs = search needs
-
 int-to-float-a : tie.Need-int-to-float-a
 int-to-float-a c = let s = c .before .before .before in small-float (s .args .order) (omega (arith, s .pre))
-
-sinh-requires : tie.Need-sinh-requires
-sinh-requires c κs = search needs
-
-cosh-requires : tie.Need-cosh-requires
-cosh-requires c κs = search needs
 
 returns : tie.Need-returns
 unfolding cheb1Prototype
@@ -28,4 +16,4 @@ returns c = let d = c .before .before .before in rw (c .cosh .ensures, c .before
 pub chebyshev1-prototype-spec : {M : Type 1} → statement M
 chebyshev1-prototype-spec =
     tie.close
-    (tie.spec epsilon-requires arcsinh-requires int-to-float-a sinh-requires cosh-requires returns)
+    (tie.spec (λ c κs. search needs) (λ c κs. search needs) int-to-float-a (λ c κs. search needs) (λ c κs. search needs) returns)

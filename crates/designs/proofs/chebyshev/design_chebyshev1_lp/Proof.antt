@@ -10,19 +10,10 @@ use borrow.Author.Needs.{needs}
 use Rattle.designs.proofs.chebyshev.design_chebyshev1_lp.Statement.{statement}
 use Rattle.designs.proofs.chebyshev.design_chebyshev1_lp.Tie as tie
 
-validate-chebyshev-requires : tie.Need-validate-chebyshev-requires
-validate-chebyshev-requires c κs = search needs
-
-refused-requires : tie.Need-refused-requires
-refused-requires c κs = search needs
-
 returns : tie.Need-returns
 unfolding chebyshev1Lp
 returns c = let v = c .before .before .validate-chebyshev in
     c .refused .ensures ∙ ap refusedDesign (v .ensures) ∙ is-refused _ _ (λ e. c .before .if1 .taken (v .ensures ∙ e))
-
-warp-requires : tie.Need-warp-requires
-warp-requires c κs = search needs
 
 chebyshev1-prototype-requires : tie.Need-chebyshev1-prototype-requires
 chebyshev1-prototype-requires c κs = let s = c .before .before .before in
@@ -44,10 +35,10 @@ pub design-chebyshev1-lp-spec : {M : Type 1} → statement M
 design-chebyshev1-lp-spec =
     tie.close
     (tie.spec
-    validate-chebyshev-requires
-    refused-requires
+    (λ c κs. search needs)
+    (λ c κs. search needs)
     returns
-    warp-requires
+    (λ c κs. search needs)
     chebyshev1-prototype-requires
     design-from-prototype-requires
     returns-2)

@@ -8,12 +8,6 @@ use borrow.Author.Needs.{needs}
 use Rattle.designs.proofs.chebyshev.theta.Statement.{statement}
 use Rattle.designs.proofs.chebyshev.theta.Tie as tie
 
-mul-result : tie.Need-mul-result
-mul-result c = search needs
-
-add-result : tie.Need-add-result
-add-result c = search needs
-
 int-to-float-result : tie.Need-int-to-float-result
 int-to-float-result c = let h = c .before .pre .1 in small-float (2 * c .before .args .m + 1) (omega arith)
 
@@ -26,4 +20,4 @@ returns c = refl
 
 pub theta-spec : {M : Type 1} → statement M
 theta-spec =
-    tie.close (tie.spec mul-result add-result int-to-float-result int-to-float-result-2 returns)
+    tie.close (tie.spec (λ c. search needs) (λ c. search needs) int-to-float-result int-to-float-result-2 returns)

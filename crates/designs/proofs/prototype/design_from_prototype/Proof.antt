@@ -4,16 +4,10 @@ use borrow.Author.Needs.{needs}
 use Rattle.designs.proofs.prototype.design_from_prototype.Statement.{statement}
 use Rattle.designs.proofs.prototype.design_from_prototype.Tie as tie
 
-sections-from-pairs-requires : tie.Need-sections-from-pairs-requires
-sections-from-pairs-requires c κs = search needs
-
-first-from-pole-requires : tie.Need-first-from-pole-requires
-first-from-pole-requires c κs = search needs
-
 returns : tie.Need-returns
 unfolding prototypeCascade
 returns c = rw (c .before .sections-from-pairs .ensures, c .first-from-pole .ensures)
 
 pub design-from-prototype-spec : {M : Type 1} → statement M
 design-from-prototype-spec =
-    tie.close (tie.spec sections-from-pairs-requires first-from-pole-requires returns)
+    tie.close (tie.spec (λ c κs. search needs) (λ c κs. search needs) returns)

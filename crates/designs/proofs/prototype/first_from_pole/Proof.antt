@@ -5,15 +5,9 @@ use borrow.Author.Needs.{needs}
 use Rattle.designs.proofs.prototype.first_from_pole.Statement.{statement}
 use Rattle.designs.proofs.prototype.first_from_pole.Tie as tie
 
-blank-requires : tie.Need-blank-requires
-blank-requires c κs = search needs
-
 returns : tie.Need-returns
 unfolding firstOf
 returns c = rw (eq-eqb _ _ (c .before .if1 .taken)) (c .blank .ensures)
-
-part-from-real-pole-requires : tie.Need-part-from-real-pole-requires
-part-from-real-pole-requires c κs = search needs
 
 returns-2 : tie.Need-returns-2
 unfolding firstOf
@@ -21,4 +15,4 @@ returns-2 c = rw (ne-eqb _ _ (c .before .if1 .left)) (c .part-from-real-pole .en
 
 pub first-from-pole-spec : {M : Type 1} → statement M
 first-from-pole-spec =
-    tie.close (tie.spec blank-requires returns part-from-real-pole-requires returns-2)
+    tie.close (tie.spec (λ c κs. search needs) returns (λ c κs. search needs) returns-2)

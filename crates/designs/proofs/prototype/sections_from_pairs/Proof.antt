@@ -19,9 +19,6 @@ Inv-loop prototype order sections₀ m₀ sections m = (map sectionView sections
 abbrev μ-loop : tie.MeasureT-loop
 μ-loop prototype order sections₀ m₀ sections m = order / 2 - m
 
-blank-requires : tie.Need-blank-requires Inv-loop μ-loop
-blank-requires c κs = search needs
-
 loop-holds : tie.Need-loop-holds Inv-loop μ-loop
 loop-holds c = let a = c .before .args in
     (rw (c .blank .ensures) (upTo-none (pairOf (a .prototype) (a .order))), omega arith)
@@ -38,9 +35,6 @@ array-set-from-sections c = let h = c .before .before .before .before .pre .1 in
 
 add-m : tie.Need-add-m Inv-loop μ-loop
 add-m c = let h = c .before .before .before .before .pre .1 in omega arith
-
-loop-less : tie.Need-loop-less Inv-loop μ-loop
-loop-less c = omega arith
 
 loop-again : tie.Need-loop-again Inv-loop μ-loop
 loop-again c = let l = c .before .before .loop in
@@ -59,12 +53,12 @@ sections-from-pairs-spec =
     (tie.spec
     Inv-loop
     μ-loop
-    blank-requires
+    (λ c κs. search needs)
     loop-holds
     section-from-pair-requires
     mul-sections
     array-set-from-sections
     add-m
-    loop-less
+    (λ c. omega arith)
     loop-again
     returns)

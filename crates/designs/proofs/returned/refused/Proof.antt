@@ -3,11 +3,8 @@ use borrow.Author.Needs.{needs}
 use Rattle.designs.proofs.returned.refused.Statement.{statement}
 use Rattle.designs.proofs.returned.refused.Tie as tie
 
-blank-requires : tie.Need-blank-requires
-blank-requires c κs = search needs
-
 returns : tie.Need-returns
 returns c = rw (c .blank .ensures)
 
 pub refused-spec : {M : Type 1} → statement M
-refused-spec = tie.close (tie.spec blank-requires returns)
+refused-spec = tie.close (tie.spec (λ c κs. search needs) returns)

@@ -26,9 +26,6 @@ at-most-2 c =
     let e = c .before .magnitude .ensures ∙ ap mag (toZ-ofZ w64 (s .args .k) (s .fits .k)) in
     omega (arith, e, scale-above (s .args .k) (above-is (s .args .k) (s .fits .k) (c .if1 .left)) (s .pre))
 
-magnitude-requires : tie.Need-magnitude-requires
-magnitude-requires c κs = search needs
-
 sub-biased : tie.Need-sub-biased
 sub-biased c = let h = at-most c in omega arith
 
@@ -59,7 +56,7 @@ pub power-of-two-spec : {M : Type 1} → statement M
 power-of-two-spec =
     tie.close
     (tie.spec
-    magnitude-requires
+    (λ c κs. search needs)
     sub-biased
     biased-requires
     add-biased

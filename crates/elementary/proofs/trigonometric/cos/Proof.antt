@@ -7,14 +7,8 @@ use borrow.Author.Needs.{needs}
 use Rattle.elementary.proofs.trigonometric.cos.Statement.{statement}
 use Rattle.elementary.proofs.trigonometric.cos.Tie as tie
 
-abs-requires : tie.Need-abs-requires
-abs-requires c κs = search needs
-
 reduced-requires : tie.Need-reduced-requires
 reduced-requires c κs = let x = c .before .before .args .x in turnable-within x (turnable-is x (c .before .abs .result) true (c .before .abs .ensures) (c .if1 .taken))
-
-cos-in-requires : tie.Need-cos-in-requires
-cos-in-requires c κs = search needs
 
 returns : tie.Need-returns
 unfolding cosOf
@@ -26,4 +20,4 @@ unfolding cosOf Ieee.div Ieee.ofBits
 returns-2 c = rw (turnable-is (c .before .before .args .x) (c .before .abs .result) false (c .before .abs .ensures) (c .if1 .left))
 
 pub cos-spec : {M : Type 1} → statement M
-cos-spec = tie.close (tie.spec abs-requires reduced-requires cos-in-requires returns returns-2)
+cos-spec = tie.close (tie.spec (λ c κs. search needs) reduced-requires (λ c κs. search needs) returns returns-2)

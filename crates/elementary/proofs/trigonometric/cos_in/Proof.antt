@@ -5,18 +5,6 @@ use borrow.Author.Needs.{needs}
 use Rattle.elementary.proofs.trigonometric.cos_in.Statement.{statement}
 use Rattle.elementary.proofs.trigonometric.cos_in.Tie as tie
 
-cos-rest-requires : tie.Need-cos-rest-requires
-cos-rest-requires c κs = search needs
-
-sin-rest-requires : tie.Need-sin-rest-requires
-sin-rest-requires c κs = search needs
-
-cos-rest-requires-2 : tie.Need-cos-rest-requires-2
-cos-rest-requires-2 c κs = search needs
-
-sin-rest-requires-2 : tie.Need-sin-rest-requires-2
-sin-rest-requires-2 c κs = search needs
-
 returns : tie.Need-returns
 unfolding cosAt
 returns c = rw (c .before .match .keys1, c .cos-rest .ensures)
@@ -37,10 +25,10 @@ pub cos-in-spec : {M : Type 1} → statement M
 cos-in-spec =
     tie.close
     (tie.spec
-    cos-rest-requires
-    sin-rest-requires
-    cos-rest-requires-2
-    sin-rest-requires-2
+    (λ c κs. search needs)
+    (λ c κs. search needs)
+    (λ c κs. search needs)
+    (λ c κs. search needs)
     returns
     returns-2
     returns-3

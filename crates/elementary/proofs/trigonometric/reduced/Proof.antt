@@ -11,16 +11,10 @@ use Rattle.elementary.proofs.trigonometric.reduced.Tie as tie
 nearest-requires : tie.Need-nearest-requires
 nearest-requires c κs = turns-within (c .args .x) (c .pre)
 
-nearest-i64-to-f64-requires : tie.Need-nearest-i64-to-f64-requires
-nearest-i64-to-f64-requires c κs = search needs
-
-modulo-four-requires : tie.Need-modulo-four-requires
-modulo-four-requires c κs = search needs
-
 returns : tie.Need-returns
 unfolding reducedOf restOf turns
 returns c = rw (c .modulo-four .ensures, c .before .nearest-i64-to-f64 .ensures, toZ-ofZ w64 (c .before .before .nearest .result) (sfits-of (c .before .before .nearest .ok)), c .before .before .nearest .ensures)
 
 pub reduced-spec : {M : Type 1} → statement M
 reduced-spec =
-    tie.close (tie.spec nearest-requires nearest-i64-to-f64-requires modulo-four-requires returns)
+    tie.close (tie.spec nearest-requires (λ c κs. search needs) (λ c κs. search needs) returns)

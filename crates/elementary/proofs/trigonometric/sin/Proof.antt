@@ -7,14 +7,8 @@ use borrow.Author.Needs.{needs}
 use Rattle.elementary.proofs.trigonometric.sin.Statement.{statement}
 use Rattle.elementary.proofs.trigonometric.sin.Tie as tie
 
-abs-requires : tie.Need-abs-requires
-abs-requires c κs = search needs
-
 reduced-requires : tie.Need-reduced-requires
 reduced-requires c κs = let x = c .before .before .args .x in turnable-within x (turnable-is x (c .before .abs .result) true (c .before .abs .ensures) (c .if1 .taken))
-
-sin-in-requires : tie.Need-sin-in-requires
-sin-in-requires c κs = search needs
 
 returns : tie.Need-returns
 unfolding sinOf
@@ -26,4 +20,4 @@ unfolding sinOf Ieee.div Ieee.ofBits
 returns-2 c = rw (turnable-is (c .before .before .args .x) (c .before .abs .result) false (c .before .abs .ensures) (c .if1 .left))
 
 pub sin-spec : {M : Type 1} → statement M
-sin-spec = tie.close (tie.spec abs-requires reduced-requires sin-in-requires returns returns-2)
+sin-spec = tie.close (tie.spec (λ c κs. search needs) reduced-requires (λ c κs. search needs) returns returns-2)

@@ -4,15 +4,9 @@ use borrow.Author.Needs.{needs}
 use Rattle.elementary.proofs.trigonometric.tan.Statement.{statement}
 use Rattle.elementary.proofs.trigonometric.tan.Tie as tie
 
-sin-requires : tie.Need-sin-requires
-sin-requires c κs = search needs
-
-cos-requires : tie.Need-cos-requires
-cos-requires c κs = search needs
-
 returns : tie.Need-returns
 unfolding tanOf
 returns c = rw (c .before .sin .ensures, c .cos .ensures)
 
 pub tan-spec : {M : Type 1} → statement M
-tan-spec = tie.close (tie.spec sin-requires cos-requires returns)
+tan-spec = tie.close (tie.spec (λ c κs. search needs) (λ c κs. search needs) returns)

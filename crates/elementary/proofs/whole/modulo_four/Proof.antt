@@ -10,12 +10,6 @@ use borrow.Author.Needs.{needs}
 use Rattle.elementary.proofs.whole.modulo_four.Statement.{statement}
 use Rattle.elementary.proofs.whole.modulo_four.Tie as tie
 
-magnitude-requires : tie.Need-magnitude-requires
-magnitude-requires c κs = search needs
-
-sub-result : tie.Need-sub-result
-sub-result c = search needs
-
 returns : tie.Need-returns
 returns c = let s = c .before .before in
     ap (λ (n : ℕ). 3 - n % 4) (c .before .magnitude .ensures ∙ ap mag (toZ-ofZ w64 (s .args .z) (s .fits .z))) ∙ sym (ap mod4 (below-is (s .args .z) (s .fits .z) (c .if1 .taken)))
@@ -25,4 +19,4 @@ returns-2 c = let s = c .before .before in
     ap (λ (n : ℕ). n % 4) (c .before .magnitude .ensures ∙ ap mag (toZ-ofZ w64 (s .args .z) (s .fits .z))) ∙ sym (ap mod4 (above-is (s .args .z) (s .fits .z) (c .if1 .left)))
 
 pub modulo-four-spec : {M : Type 1} → statement M
-modulo-four-spec = tie.close (tie.spec magnitude-requires sub-result returns returns-2)
+modulo-four-spec = tie.close (tie.spec (λ c κs. search needs) (λ c. search needs) returns returns-2)

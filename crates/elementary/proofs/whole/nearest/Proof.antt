@@ -20,9 +20,6 @@ use Rattle.elementary.proofs.whole.nearest.Tie as tie
 small : (t : Float) (n : ℕ) → Within (2 ^ 52) t → n ≡ closest (num t) (den t) → n ≤ 2 ^ 53
 small t n h e = le-trans (le-of-eq e) (closest-le t h)
 
-nearest-magnitude-requires : tie.Need-nearest-magnitude-requires
-nearest-magnitude-requires c κs = search needs
-
 cast-n : tie.Need-cast-n
 cast-n c = record { sfits = lt-of-le-of-lt (small (c .before .args .t) (c .nearest-magnitude .result) (c .before .pre) (c .nearest-magnitude .ensures)) (lit< tt) }
 
@@ -46,4 +43,4 @@ returns-2 c = let n = c .before .nearest-magnitude in
     ∙ sym (near-pos (c .before .before .args .t) (c .before .before .pre) (c .if1 .left))
 
 pub nearest-spec : {M : Type 1} → statement M
-nearest-spec = tie.close (tie.spec nearest-magnitude-requires cast-n sub-result returns returns-2)
+nearest-spec = tie.close (tie.spec (λ c κs. search needs) cast-n sub-result returns returns-2)

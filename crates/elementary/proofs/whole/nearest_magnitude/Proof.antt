@@ -11,9 +11,6 @@ use Rattle.elementary.proofs.whole.nearest_magnitude.Statement.{stateme
 use Rattle.elementary.proofs.whole.nearest_magnitude.Tie as tie
 use mathlib.Core.Bool.{true, false}
 
-abs-requires : tie.Need-abs-requires
-abs-requires c κs = search needs
-
 truncating-f64-to-u64-requires : tie.Need-truncating-f64-to-u64-requires
 truncating-f64-to-u64-requires c κs = let t = c .before .args .t in
     (subst (λ (a : Float). T (lt (fin true 1 (pos 0)) a)) (sym (c .abs .ensures)) (trunc-low t (c .before .pre)), subst (λ (a : Float). T (lt a (fin false 1 (pos 64)))) (sym (c .abs .ensures)) (trunc-high t (c .before .pre)))
@@ -51,7 +48,7 @@ pub nearest-magnitude-spec : {M : Type 1} → statement M
 nearest-magnitude-spec =
     tie.close
     (tie.spec
-    abs-requires
+    (λ c κs. search needs)
     truncating-f64-to-u64-requires
     int-to-float-rest
     add-result

@@ -10,21 +10,6 @@ use borrow.Author.Needs.{needs}
 use Rattle.fir.proofs.TapRecord.block.Statement.{statement}
 use Rattle.fir.proofs.TapRecord.block.Tie as tie
 
-slice-aggregate-block : tie.Need-slice-aggregate-block
-slice-aggregate-block c = search needs
-
-slice-aggregate-block-2 : tie.Need-slice-aggregate-block-2
-slice-aggregate-block-2 c = search needs
-
-cast-block : tie.Need-cast-block
-cast-block c = search needs
-
-block-requires : tie.Need-block-requires
-block-requires c κs = search needs
-
-same-length : tie.Need-same-length
-same-length c = search needs
-
 returns : tie.Need-returns
 returns c = let s = c .before .before .before .before .before .before .before .before .before .before .before in
     let t : length (s .args .self .taps) ≡ capacity = search needs in
@@ -35,9 +20,9 @@ pub block-spec : {M : Type 1} → statement M
 block-spec =
     tie.close
     (tie.spec
-    slice-aggregate-block
-    slice-aggregate-block-2
-    cast-block
-    block-requires
-    same-length
+    (λ c. search needs)
+    (λ c. search needs)
+    (λ c. search needs)
+    (λ c κs. search needs)
+    (λ c. search needs)
     returns)

@@ -15,44 +15,14 @@ Inv-loop coeffs length samples taps₀ i₀ taps i = (i ≤ length) × Copying c
 abbrev μ-loop : tie.MeasureT-loop
 μ-loop coeffs length samples taps₀ i₀ taps i = length - i
 
-blank-requires : tie.Need-blank-requires Inv-loop μ-loop
-blank-requires c κs = tt
-
 returns : tie.Need-returns Inv-loop μ-loop
 returns c = made-none capacity (c .before .before .before .args .coeffs .now) (c .before .if1 .taken) (c .blank .ensures)
-
-blank-requires-2 : tie.Need-blank-requires-2 Inv-loop μ-loop
-blank-requires-2 c κs = tt
 
 returns-2 : tie.Need-returns-2 Inv-loop μ-loop
 returns-2 c = made-many capacity (c .before .before .before .before .args .coeffs .now) (c .before .before .if1 .left) (c .before .if2 .taken) (c .blank2 .ensures)
 
-no-numbers-requires : tie.Need-no-numbers-requires Inv-loop μ-loop
-no-numbers-requires c κs = tt
-
-no-numbers-requires-2 : tie.Need-no-numbers-requires-2 Inv-loop μ-loop
-no-numbers-requires-2 c κs = tt
-
 loop-holds : tie.Need-loop-holds Inv-loop μ-loop
 loop-holds c = (search needs, copy-start (c .before .before .before .before .before .args .coeffs .now) (zeros capacity) _ (c .no-numbers2 .ensures))
-
-mul-taps : tie.Need-mul-taps Inv-loop μ-loop
-mul-taps c = omega arith
-
-shared-slice-read-taps : tie.Need-shared-slice-read-taps Inv-loop μ-loop
-shared-slice-read-taps c = omega arith
-
-mul-taps-2 : tie.Need-mul-taps-2 Inv-loop μ-loop
-mul-taps-2 c = omega arith
-
-array-write-taps : tie.Need-array-write-taps Inv-loop μ-loop
-array-write-taps c = omega arith
-
-add-i : tie.Need-add-i Inv-loop μ-loop
-add-i c = omega arith
-
-loop-less : tie.Need-loop-less Inv-loop μ-loop
-loop-less c = omega arith
 
 loop-again : tie.Need-loop-again Inv-loop μ-loop
 loop-again c = let l = c .before .before in
@@ -67,18 +37,18 @@ from-coeffs-spec =
     (tie.spec
     Inv-loop
     μ-loop
-    blank-requires
+    (λ c κs. tt)
     returns
-    blank-requires-2
+    (λ c κs. tt)
     returns-2
-    no-numbers-requires
-    no-numbers-requires-2
+    (λ c κs. tt)
+    (λ c κs. tt)
     loop-holds
-    mul-taps
-    shared-slice-read-taps
-    mul-taps-2
-    array-write-taps
-    add-i
-    loop-less
+    (λ c. omega arith)
+    (λ c. omega arith)
+    (λ c. omega arith)
+    (λ c. omega arith)
+    (λ c. omega arith)
+    (λ c. omega arith)
     loop-again
     returns-3)

@@ -10,18 +10,6 @@ use borrow.Author.Needs.{needs}
 use Rattle.fir.proofs.TapRecord.reset.Statement.{statement}
 use Rattle.fir.proofs.TapRecord.reset.Tie as tie
 
-slice-aggregate-reset : tie.Need-slice-aggregate-reset
-slice-aggregate-reset c = search needs
-
-slice-aggregate-reset-2 : tie.Need-slice-aggregate-reset-2
-slice-aggregate-reset-2 c = search needs
-
-cast-reset : tie.Need-cast-reset
-cast-reset c = search needs
-
-reset-requires : tie.Need-reset-requires
-reset-requires c κs = search needs
-
 returns : tie.Need-returns
 returns c = let s = c .before .before .before .before .before .before in
     let t : length (s .args .self .taps) ≡ capacity = search needs in
@@ -31,4 +19,4 @@ returns c = let s = c .before .before .before .before .before .before in
 pub reset-spec : {M : Type 1} → statement M
 reset-spec =
     tie.close
-    (tie.spec slice-aggregate-reset slice-aggregate-reset-2 cast-reset reset-requires returns)
+    (tie.spec (λ c. search needs) (λ c. search needs) (λ c. search needs) (λ c κs. search needs) returns)

@@ -10,18 +10,6 @@ use borrow.Author.Needs.{needs}
 use Rattle.fir.proofs.TapRecord.update.Statement.{statement}
 use Rattle.fir.proofs.TapRecord.update.Tie as tie
 
-slice-aggregate-update : tie.Need-slice-aggregate-update
-slice-aggregate-update c = search needs
-
-slice-aggregate-update-2 : tie.Need-slice-aggregate-update-2
-slice-aggregate-update-2 c = search needs
-
-cast-update : tie.Need-cast-update
-cast-update c = search needs
-
-update-requires : tie.Need-update-requires
-update-requires c κs = search needs
-
 returns : tie.Need-returns
 returns c = let s = c .before .before .before .before .before .before in
     let t : length (s .args .self .taps) ≡ capacity = search needs in
@@ -31,4 +19,4 @@ returns c = let s = c .before .before .before .before .before .before in
 pub update-spec : {M : Type 1} → statement M
 update-spec =
     tie.close
-    (tie.spec slice-aggregate-update slice-aggregate-update-2 cast-update update-requires returns)
+    (tie.spec (λ c. search needs) (λ c. search needs) (λ c. search needs) (λ c κs. search needs) returns)

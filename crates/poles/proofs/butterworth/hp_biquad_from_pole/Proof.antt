@@ -10,16 +10,10 @@ use borrow.Author.Needs.{needs}
 use Rattle.poles.proofs.butterworth.hp_biquad_from_pole.Statement.{statement}
 use Rattle.poles.proofs.butterworth.hp_biquad_from_pole.Tie as tie
 
-denominator-of-requires : tie.Need-denominator-of-requires
-denominator-of-requires c κs = search needs
-
-new-requires : tie.Need-new-requires
-new-requires c κs = search needs
-
 returns : tie.Need-returns
 unfolding hpBiquad
 returns c = c .new .ensures
     ∙ ap (λ (d : DenominatorRecord). newBiquad (one ⊘ d .a0) (neg two ⊘ d .a0) (one ⊘ d .a0) (d .a1) (d .a2)) (c .before .before .before .before .denominator-of .ensures)
 
 pub hp-biquad-from-pole-spec : {M : Type 1} → statement M
-hp-biquad-from-pole-spec = tie.close (tie.spec denominator-of-requires new-requires returns)
+hp-biquad-from-pole-spec = tie.close (tie.spec (λ c κs. search needs) (λ c κs. search needs) returns)

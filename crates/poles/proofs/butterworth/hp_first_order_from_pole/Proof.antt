@@ -4,12 +4,9 @@ use borrow.Author.Needs.{needs}
 use Rattle.poles.proofs.butterworth.hp_first_order_from_pole.Statement.{statement}
 use Rattle.poles.proofs.butterworth.hp_first_order_from_pole.Tie as tie
 
-new-requires : tie.Need-new-requires
-new-requires c κs = search needs
-
 returns : tie.Need-returns
 unfolding hpFirst
 returns c = c .new .ensures
 
 pub hp-first-order-from-pole-spec : {M : Type 1} → statement M
-hp-first-order-from-pole-spec = tie.close (tie.spec new-requires returns)
+hp-first-order-from-pole-spec = tie.close (tie.spec (λ c κs. search needs) returns)

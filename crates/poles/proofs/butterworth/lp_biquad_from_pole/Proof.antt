@@ -9,12 +9,6 @@ use borrow.Author.Needs.{needs}
 use Rattle.poles.proofs.butterworth.lp_biquad_from_pole.Statement.{statement}
 use Rattle.poles.proofs.butterworth.lp_biquad_from_pole.Tie as tie
 
-denominator-of-requires : tie.Need-denominator-of-requires
-denominator-of-requires c κs = search needs
-
-new-requires : tie.Need-new-requires
-new-requires c κs = search needs
-
 returns : tie.Need-returns
 unfolding lpBiquad
 returns c = let k = c .before .before .before .args .k in
@@ -22,4 +16,4 @@ returns c = let k = c .before .before .before .args .k in
     ∙ ap (λ (d : DenominatorRecord). let b = (k ⊗ k) ⊘ d .a0 in newBiquad b (two ⊗ b) b (d .a1) (d .a2)) (c .before .before .denominator-of .ensures)
 
 pub lp-biquad-from-pole-spec : {M : Type 1} → statement M
-lp-biquad-from-pole-spec = tie.close (tie.spec denominator-of-requires new-requires returns)
+lp-biquad-from-pole-spec = tie.close (tie.spec (λ c κs. search needs) (λ c κs. search needs) returns)

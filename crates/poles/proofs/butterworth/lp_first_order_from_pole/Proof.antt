@@ -4,12 +4,9 @@ use borrow.Author.Needs.{needs}
 use Rattle.poles.proofs.butterworth.lp_first_order_from_pole.Statement.{statement}
 use Rattle.poles.proofs.butterworth.lp_first_order_from_pole.Tie as tie
 
-new-requires : tie.Need-new-requires
-new-requires c κs = search needs
-
 returns : tie.Need-returns
 unfolding lpFirst
 returns c = c .new .ensures
 
 pub lp-first-order-from-pole-spec : {M : Type 1} → statement M
-lp-first-order-from-pole-spec = tie.close (tie.spec new-requires returns)
+lp-first-order-from-pole-spec = tie.close (tie.spec (λ c κs. search needs) returns)

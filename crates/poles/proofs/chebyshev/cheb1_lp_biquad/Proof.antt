@@ -9,12 +9,6 @@ use borrow.Author.Needs.{needs}
 use Rattle.poles.proofs.chebyshev.cheb1_lp_biquad.Statement.{statement}
 use Rattle.poles.proofs.chebyshev.cheb1_lp_biquad.Tie as tie
 
-denominator-of-requires : tie.Need-denominator-of-requires
-denominator-of-requires c κs = search needs
-
-new-requires : tie.Need-new-requires
-new-requires c κs = search needs
-
 returns : tie.Need-returns
 unfolding cheb1Biquad
 returns c = let a = c .before .before .before .args in
@@ -22,4 +16,4 @@ returns c = let a = c .before .before .before .args in
     ∙ ap (λ (d : DenominatorRecord). let b = ((a .sigma ⊗ a .sigma ⊕ a .omega-im ⊗ a .omega-im) ⊗ (a .k ⊗ a .k)) ⊘ d .a0 in newBiquad b (two ⊗ b) b (d .a1) (d .a2)) (c .before .before .denominator-of .ensures)
 
 pub cheb1-lp-biquad-spec : {M : Type 1} → statement M
-cheb1-lp-biquad-spec = tie.close (tie.spec denominator-of-requires new-requires returns)
+cheb1-lp-biquad-spec = tie.close (tie.spec (λ c κs. search needs) (λ c κs. search needs) returns)

@@ -9,12 +9,6 @@ use borrow.Author.Needs.{needs}
 use Rattle.poles.proofs.chebyshev.cheb2_lp_biquad.Statement.{statement}
 use Rattle.poles.proofs.chebyshev.cheb2_lp_biquad.Tie as tie
 
-denominator-of-requires : tie.Need-denominator-of-requires
-denominator-of-requires c κs = search needs
-
-new-requires : tie.Need-new-requires
-new-requires c κs = search needs
-
 returns : tie.Need-returns
 unfolding cheb2Biquad
 returns c = let a = c .before .before .before .before .args in
@@ -25,4 +19,4 @@ returns c = let a = c .before .before .before .before .args in
     ∙ ap (λ (d : DenominatorRecord). let b0 = (r ⊗ (one ⊕ zk)) ⊘ d .a0 in newBiquad b0 (((r ⊗ two) ⊗ (zk ⊖ one)) ⊘ d .a0) b0 (d .a1) (d .a2)) (c .before .before .before .denominator-of .ensures)
 
 pub cheb2-lp-biquad-spec : {M : Type 1} → statement M
-cheb2-lp-biquad-spec = tie.close (tie.spec denominator-of-requires new-requires returns)
+cheb2-lp-biquad-spec = tie.close (tie.spec (λ c κs. search needs) (λ c κs. search needs) returns)

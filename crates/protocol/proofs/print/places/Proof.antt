@@ -13,12 +13,6 @@ abbrev μ-loop : tie.MeasureT-loop
 loop-holds : tie.Need-loop-holds Inv-loop μ-loop
 loop-holds c = count-start (c .args .n)
 
-add-k : tie.Need-add-k Inv-loop μ-loop
-add-k c = omega arith
-
-loop-less : tie.Need-loop-less Inv-loop μ-loop
-loop-less c = omega arith
-
 loop-again : tie.Need-loop-again Inv-loop μ-loop
 loop-again c = count-turn (c .before .before .args .n) (c .before .loop .k) (c .before .loop .rest) (omega arith) (c .before .loop .inv)
 
@@ -26,4 +20,4 @@ returns : tie.Need-returns Inv-loop μ-loop
 returns c = count-done (c .before .before .args .n) (c .before .loop .k) (c .before .loop .rest) (omega arith) (c .before .loop .inv)
 
 pub places-spec : {M : Type 1} → statement M
-places-spec = tie.close (tie.spec Inv-loop μ-loop loop-holds add-k loop-less loop-again returns)
+places-spec = tie.close (tie.spec Inv-loop μ-loop loop-holds (λ c. omega arith) (λ c. omega arith) loop-again returns)

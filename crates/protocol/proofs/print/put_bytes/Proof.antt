@@ -14,12 +14,6 @@ Inv-loop output₀ at text i₀ output i = (i ≤ length text) × (at + length t
 abbrev μ-loop : tie.MeasureT-loop
 μ-loop output₀ at text i₀ output i = length text - i
 
-has-room-requires : tie.Need-has-room-requires Inv-loop μ-loop
-has-room-requires c κs = tt
-
-add-result : tie.Need-add-result Inv-loop μ-loop
-add-result c = omega arith
-
 returns : tie.Need-returns Inv-loop μ-loop
 returns c = let a = c .before .before .before .before .args in
     left-out (a .output .now) (a .at) (a .text .now) (length (a .text .now)) refl (sym (c .before .has-room .ensures) ∙ not-true _ (c .if1 .taken))
@@ -28,31 +22,10 @@ loop-holds : tie.Need-loop-holds Inv-loop μ-loop
 loop-holds c = let a = c .before .before .before .before .args in
     (omega arith, leb-true _ _ (sym (c .before .has-room .ensures) ∙ not-false _ (c .if1 .left)), put-start (a .output .now) (a .at) (a .text .now))
 
-shared-slice-read-output : tie.Need-shared-slice-read-output Inv-loop μ-loop
-shared-slice-read-output c = omega arith
-
-add-output : tie.Need-add-output Inv-loop μ-loop
-add-output c = omega arith
-
-slice-write-output : tie.Need-slice-write-output Inv-loop μ-loop
-slice-write-output c = omega arith
-
-add-i : tie.Need-add-i Inv-loop μ-loop
-add-i c = omega arith
-
-loop-less : tie.Need-loop-less Inv-loop μ-loop
-loop-less c = omega arith
-
 loop-again : tie.Need-loop-again Inv-loop μ-loop
 loop-again c = let l = c .before .before in
     let a = l .before .before .before .before .before .args in
     (omega arith, l .loop .inv .1, put-turn (a .output .now) (a .at) (a .text .now) (l .loop .output) (l .loop .i) (omega arith) (l .loop .inv .1) (l .loop .inv .2))
-
-add-result-2 : tie.Need-add-result-2 Inv-loop μ-loop
-add-result-2 c = omega arith
-
-same-length : tie.Need-same-length Inv-loop μ-loop
-same-length c = omega arith
 
 returns-2 : tie.Need-returns-2 Inv-loop μ-loop
 returns-2 c = let l = c .before in
@@ -65,16 +38,16 @@ put-bytes-spec =
     (tie.spec
     Inv-loop
     μ-loop
-    has-room-requires
-    add-result
+    (λ c κs. tt)
+    (λ c. omega arith)
     returns
     loop-holds
-    shared-slice-read-output
-    add-output
-    slice-write-output
-    add-i
-    loop-less
+    (λ c. omega arith)
+    (λ c. omega arith)
+    (λ c. omega arith)
+    (λ c. omega arith)
+    (λ c. omega arith)
     loop-again
-    add-result-2
-    same-length
+    (λ c. omega arith)
+    (λ c. omega arith)
     returns-2)

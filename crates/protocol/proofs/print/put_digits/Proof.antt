@@ -16,12 +16,6 @@ Inv-loop output₀ at base k n i₀ rest₀ output i rest = (i ≤ k) × (at + k
 abbrev μ-loop : tie.MeasureT-loop
 μ-loop output₀ at base k n i₀ rest₀ output i rest = i
 
-has-room-requires : tie.Need-has-room-requires Inv-loop μ-loop
-has-room-requires c κs = tt
-
-add-result : tie.Need-add-result Inv-loop μ-loop
-add-result c = omega arith
-
 returns : tie.Need-returns Inv-loop μ-loop
 returns c = let a = c .before .before .before .args in
     left-out (a .output .now) (a .at) _ (a .k) (length-digits (a .base) (a .k) (a .n)) (sym (c .before .has-room .ensures) ∙ not-true _ (c .if1 .taken))
@@ -29,27 +23,9 @@ returns c = let a = c .before .before .before .args in
 loop-holds : tie.Need-loop-holds Inv-loop μ-loop
 loop-holds c = (omega arith, leb-true _ _ (sym (c .before .has-room .ensures) ∙ not-false _ (c .if1 .left)), (refl, refl))
 
-sub-i : tie.Need-sub-i Inv-loop μ-loop
-sub-i c = omega arith
-
-rem-glyph : tie.Need-rem-glyph Inv-loop μ-loop
-rem-glyph c = search needs
-
 glyph-requires : tie.Need-glyph-requires Inv-loop μ-loop
 glyph-requires c κs = let s = c .before .before .before .before .before in
     lt-of-lt-of-le (mod-lt _ (s .pre .0)) (s .pre .1)
-
-add-output : tie.Need-add-output Inv-loop μ-loop
-add-output c = omega arith
-
-slice-write-output : tie.Need-slice-write-output Inv-loop μ-loop
-slice-write-output c = omega arith
-
-div-rest : tie.Need-div-rest Inv-loop μ-loop
-div-rest c = search needs
-
-loop-less : tie.Need-loop-less Inv-loop μ-loop
-loop-less c = omega arith
 
 loop-again : tie.Need-loop-again Inv-loop μ-loop
 loop-again c = let l = c .before .before in
@@ -58,12 +34,6 @@ loop-again c = let l = c .before .before in
       l .loop .inv .1,
       print-turn (a .output .now) (a .at) (a .base) (a .k) (a .n) (l .loop .output) (l .loop .i) (l .loop .rest) (omega arith) (omega arith) (l .loop .inv .1) (c .glyph .ensures) (l .loop .inv .2),
     )
-
-add-result-2 : tie.Need-add-result-2 Inv-loop μ-loop
-add-result-2 c = omega arith
-
-same-length : tie.Need-same-length Inv-loop μ-loop
-same-length c = omega arith
 
 returns-2 : tie.Need-returns-2 Inv-loop μ-loop
 returns-2 c = let l = c .before in
@@ -76,18 +46,18 @@ put-digits-spec =
     (tie.spec
     Inv-loop
     μ-loop
-    has-room-requires
-    add-result
+    (λ c κs. tt)
+    (λ c. omega arith)
     returns
     loop-holds
-    sub-i
-    rem-glyph
+    (λ c. omega arith)
+    (λ c. search needs)
     glyph-requires
-    add-output
-    slice-write-output
-    div-rest
-    loop-less
+    (λ c. omega arith)
+    (λ c. omega arith)
+    (λ c. search needs)
+    (λ c. omega arith)
     loop-again
-    add-result-2
-    same-length
+    (λ c. omega arith)
+    (λ c. omega arith)
     returns-2)

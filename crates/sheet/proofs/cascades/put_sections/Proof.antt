@@ -12,53 +12,20 @@ Inv-loop output₀ at count sections at₀ i₀ output at' i = (i ≤ 4) × (len
 abbrev μ-loop : tie.MeasureT-loop
 μ-loop output₀ at count sections at₀ i₀ output at' i = 4 - i
 
-loop-holds : tie.Need-loop-holds Inv-loop μ-loop
-loop-holds c = search needs
-
-same-length : tie.Need-same-length Inv-loop μ-loop
-same-length c = search needs
-
-returns : tie.Need-returns Inv-loop μ-loop
-returns c = search needs
-
-mul-s : tie.Need-mul-s Inv-loop μ-loop
-mul-s c = search needs
-
-array-copy-out-s : tie.Need-array-copy-out-s Inv-loop μ-loop
-array-copy-out-s c = search needs
-
-put-section-requires : tie.Need-put-section-requires Inv-loop μ-loop
-put-section-requires c κs = search needs
-
-add-i : tie.Need-add-i Inv-loop μ-loop
-add-i c = search needs
-
-loop-less : tie.Need-loop-less Inv-loop μ-loop
-loop-less c = search needs
-
-loop-again : tie.Need-loop-again Inv-loop μ-loop
-loop-again c = search needs
-
-same-length-2 : tie.Need-same-length-2 Inv-loop μ-loop
-same-length-2 c = search needs
-
-returns-2 : tie.Need-returns-2 Inv-loop μ-loop
-returns-2 c = search needs
-
 pub put-sections-spec : {M : Type 1} → statement M
 put-sections-spec =
     tie.close
     (tie.spec
     Inv-loop
     μ-loop
-    loop-holds
-    same-length
-    returns
-    mul-s
-    array-copy-out-s
-    put-section-requires
-    add-i
-    loop-less
-    loop-again
-    same-length-2
-    returns-2)
+    (λ c. search needs)
+    (λ c. search needs)
+    (λ c. search needs)
+    (λ c. search needs)
+    (λ c. search needs)
+    (λ c κs. search needs)
+    (λ c. search needs)
+    (λ c. search needs)
+    (λ c. search needs)
+    (λ c. search needs)
+    (λ c. search needs))

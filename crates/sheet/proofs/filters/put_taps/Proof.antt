@@ -6,31 +6,16 @@ use borrow.Author.Needs.{needs}
 use Rattle.sheet.proofs.filters.put_taps.Statement.{statement}
 use Rattle.sheet.proofs.filters.put_taps.Tie as tie
 
-returns : tie.Need-returns
-returns c = search needs
-
-array-share-prefix-taps : tie.Need-array-share-prefix-taps
-array-share-prefix-taps c = search needs
-
 slice-aggregate-put-floats : tie.Need-slice-aggregate-put-floats
 slice-aggregate-put-floats c = sym (length-take-le _ _ (omega arith))
-
-put-floats-requires : tie.Need-put-floats-requires
-put-floats-requires c κs = search needs
-
-same-length : tie.Need-same-length
-same-length c = search needs
-
-returns-2 : tie.Need-returns-2
-returns-2 c = search needs
 
 pub put-taps-spec : {M : Type 1} → statement M
 put-taps-spec =
     tie.close
     (tie.spec
-    returns
-    array-share-prefix-taps
+    (λ c. search needs)
+    (λ c. search needs)
     slice-aggregate-put-floats
-    put-floats-requires
-    same-length
-    returns-2)
+    (λ c κs. search needs)
+    (λ c. search needs)
+    (λ c. search needs))

@@ -4,12 +4,9 @@ use borrow.Author.Needs.{needs}
 use Rattle.sections.proofs.first_order.FirstOrder.blank.Statement.{statement}
 use Rattle.sections.proofs.first_order.FirstOrder.blank.Tie as tie
 
-new-requires : tie.Need-new-requires
-new-requires c κs = search needs
-
 returns : tie.Need-returns
 unfolding ofBits
 returns c = c .new .ensures
 
 pub blank-spec : {M : Type 1} → statement M
-blank-spec = tie.close (tie.spec new-requires returns)
+blank-spec = tie.close (tie.spec (λ c κs. search needs) returns)

@@ -4,12 +4,9 @@ use borrow.Author.Needs.{needs}
 use Rattle.sections.proofs.section.Section.identity.Statement.{statement}
 use Rattle.sections.proofs.section.Section.identity.Tie as tie
 
-new-requires : tie.Need-new-requires
-new-requires c κs = search needs
-
 returns : tie.Need-returns
 unfolding ofBits
 returns c = c .new .ensures
 
 pub identity-spec : {M : Type 1} → statement M
-identity-spec = tie.close (tie.spec new-requires returns)
+identity-spec = tie.close (tie.spec (λ c κs. search needs) returns)
