@@ -1,4 +1,4 @@
--- 000's pole formulas of the band pass, operation by operation in the Rust's order. Definitions only.
+-- 000's pole formulas of the band pass, operation by operation in the Rust's order.
 use mathlib.Core.Bool.{cond}
 use lib.Ieee.{Float, binary64, neg, lt, le}
 use Rattle.ieee.specs.Sqrt.{sqrtOf}

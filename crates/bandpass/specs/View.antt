@@ -1,4 +1,4 @@
--- The code's type, read field by field. Definitions only.
+-- The code's type, read field by field.
 use Rattle.sections.specs.View.{sectionView}
 use Rattle.bandpass.specs.BandPass.{BiquadPair}
 use Rattle.bandpass.specs.declared.SectionPair.{SectionPair}

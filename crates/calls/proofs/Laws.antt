@@ -1,4 +1,4 @@
--- What a call shows where it returns, for either kind of record. Assumes nothing.
+-- What a call shows where it returns, for either kind of record.
 use mathlib.Core.Path.{_≡_, refl, sym, ap, _∙_}
 use mathlib.Core.Bool.{true, false, _&&_, cond}
 use mathlib.Core.List.{List, [], _∷_}

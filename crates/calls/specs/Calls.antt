@@ -1,4 +1,4 @@
--- What each call returns, and what every slice holds after it. A refused call leaves every slice. Definitions only.
+-- What each call returns, and what every slice holds after it. A refused call leaves every slice.
 use Prim.Native.Nat.{ℕ}
 use mathlib.Core.Bool.{Bool, _&&_, cond}
 use mathlib.Core.List.{List, [], _∷_}

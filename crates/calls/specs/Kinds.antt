@@ -1,4 +1,4 @@
--- How a tap record stands in slices that a caller lends, and what the two kinds of record have in common. Definitions only.
+-- How a tap record stands in slices that a caller lends, and what the two kinds of record have in common.
 use Prim.Native.Nat.{ℕ}
 use mathlib.Core.Bool.{Bool, _&&_}
 use mathlib.Core.List.{List, [], _∷_}

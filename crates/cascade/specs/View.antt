@@ -1,4 +1,4 @@
--- The code's types at f64, read field by field as the records of these definitions. Definitions only.
+-- The code's types at f64, read field by field as the records of these definitions.
 use mathlib.Core.List.{List, map}
 use lib.Ieee.{Float, binary64}
 use Rattle.runs.specs.Runs.{Step, Reset, Block, Fresh}

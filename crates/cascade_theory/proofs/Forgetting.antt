@@ -1,4 +1,4 @@
--- The forgetting rule of a cascade, at every format: values, then marks, then what a reset leaves. Assumes nothing.
+-- The forgetting rule of a cascade, at every format: values, then marks, then what a reset leaves.
 use mathlib.Core.Path.{_≡_, refl, sym, ap, ap₂, _∙_}
 use mathlib.Core.Bool.{Bool, true, false, not, _||_, cond, or-comm, or-false, false≢true}
 use mathlib.Core.List.{List, [], _∷_, _++_, map, reverse, reverse-cons}

@@ -1,4 +1,4 @@
--- The check, and what a step returns. Assumes nothing.
+-- The check, and what a step returns.
 use mathlib.Core.Path.{_≡_, sym, ap, ap₂, _∙_}
 use mathlib.Core.Bool.{Bool, true}
 use lib.Ieee.{Float, Format}

@@ -1,4 +1,4 @@
--- The loop that resets the sections, whatever type the code has for a section. Assumes nothing.
+-- The loop that resets the sections, whatever type the code has for a section.
 use mathlib.Core.Path.{_≡_, refl, sym, ap, _∙_}
 use mathlib.Core.List.{List, [], _∷_, map}
 use Prim.Native.Nat.{ℕ, zero, suc, _+_, _<_, _≤_}

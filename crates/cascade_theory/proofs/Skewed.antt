@@ -1,4 +1,4 @@
--- A block that can run skewed is a run of its four sections: no sample clouds it, so a step does what the four sections do, and nothing else. Assumes nothing.
+-- A block that can run skewed is a run of its four sections: no sample clouds it, so a step does what the four sections do, and nothing else.
 use mathlib.Core.Path.{_≡_, refl, ap, _∙_}
 use mathlib.Core.Bool.{Bool, true, false, not, _||_, true≢false}
 use mathlib.Core.List.{List, [], _∷_}

@@ -1,4 +1,4 @@
--- Four turns, each through its section where that is used, are a pass through the first n sections. Assumes nothing.
+-- Four turns, each through its section where that is used, are a pass through the first n sections.
 use mathlib.Core.Path.{_≡_, refl}
 use mathlib.Core.Bool.{Bool, cond}
 use mathlib.Core.List.{List, [], _∷_, map}

@@ -1,4 +1,4 @@
--- 01 "Cascade" and its part of "Run answer": the check, the number answered to a sample, the mark, and the record after it. Definitions only.
+-- 01 "Cascade" and its part of "Run answer": the check, the number answered to a sample, the mark, and the record after it.
 use Prim.Native.Nat.{ℕ}
 use mathlib.Core.Bool.{Bool, false, not, _&&_, _||_, cond}
 use mathlib.Core.List.{List, [], _∷_, map}

@@ -1,4 +1,4 @@
--- 01 "Section": the first-order part. Definitions only.
+-- 01 "Section": the first-order part.
 use lib.Ieee.{Float, Format, add, sub, mul}
 use Rattle.runs.specs.Runs.{plusZero}
 use Rattle.cascade_theory.specs.Section.{one}

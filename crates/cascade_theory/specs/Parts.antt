@@ -1,4 +1,4 @@
--- 01 "Cascade": a sample through sections, from section 0 upward. Definitions only.
+-- 01 "Cascade": a sample through sections, from section 0 upward.
 use Prim.Native.Nat.{ℕ, zero, suc}
 use mathlib.Core.List.{List, [], _∷_}
 use lib.Ieee.{Float, Format}

@@ -1,4 +1,4 @@
--- 01 "Forgetting rule": the plain filter of a cascade. Between calls it keeps samples and nothing else. Definitions only.
+-- 01 "Forgetting rule": the plain filter of a cascade. Between calls it keeps samples and nothing else.
 use Prim.Native.Nat.{ℕ, zero, suc}
 use mathlib.Core.Bool.{Bool, false, cond}
 use mathlib.Core.List.{List, [], _∷_, map, reverse}

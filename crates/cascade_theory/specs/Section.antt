@@ -1,4 +1,4 @@
--- 01 "Section": what a second-order section answers to a sample, and what it carries on. Every operation rounds once, in the format f. Definitions only.
+-- 01 "Section": what a second-order section answers to a sample, and what it carries on. Every operation rounds once, in the format f.
 use lib.IntN.{pos}
 use lib.Ieee.{Float, fin, Format, add, sub, mul}
 use mathlib.Core.Bool.{false}

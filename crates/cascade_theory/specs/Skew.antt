@@ -1,4 +1,4 @@
--- Four sections in a row: what they answer one sample after the other, and the same with each section one sample behind the section before it. Definitions only.
+-- Four sections in a row: what they answer one sample after the other, and the same with each section one sample behind the section before it.
 use mathlib.Core.Bool.{Bool, true, false, _&&_, cond}
 use mathlib.Core.List.{List}
 use lib.Dec.{leb}

@@ -1,4 +1,4 @@
--- What the checks leave, and the whole numbers that an f64 holds. Assumes nothing.
+-- What the checks leave, and the whole numbers that an f64 holds.
 use mathlib.Core.Path.{_≡_, refl}
 use mathlib.Core.Bool.{Bool, true, false, cond}
 use Prim.Native.Nat.{ℕ, _^_, _<_, _≤_}

@@ -1,4 +1,4 @@
--- The length of a list by its places. Assumes nothing.
+-- The length of a list by its places.
 use mathlib.Core.Path.{_≡_, refl, ap, _∙_}
 use mathlib.Core.List.{[], _∷_}
 use Prim.Native.Nat.{ℕ, zero, suc, _+_}

@@ -1,4 +1,4 @@
--- A list by its places: the sections of a cascade design, and the taps of the FIR's. Definitions only.
+-- A list by its places: the sections of a cascade design, and the taps of the FIR's.
 use Prim.Native.Nat.{ℕ, zero, suc}
 use mathlib.Core.List.{List, [], _∷_, _++_}
 

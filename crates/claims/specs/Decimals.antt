@@ -1,4 +1,4 @@
--- Decimals in request lines. Definitions only.
+-- Decimals in request lines.
 use Prim.Native.Nat.{ℕ, _^_}
 use mathlib.Core.Path.{_≡_}
 use mathlib.Core.Bool.{false}

@@ -1,4 +1,4 @@
--- What two of the elementary functions' definitions mean, said without a way to compute them. Definitions only.
+-- What two of the elementary functions' definitions mean, said without a way to compute them.
 use mathlib.Core.Bool.{Bool}
 use Prim.Native.Nat.{ℕ, _*_}
 use lib.Dec.{T}

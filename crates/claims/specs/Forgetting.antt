@@ -1,4 +1,4 @@
--- Demand 3 at f64, of every record that the code can have. Definitions only.
+-- Demand 3 at f64, of every record that the code can have.
 use mathlib.Core.List.{List}
 use lib.Ieee.{binary64}
 use Rattle.runs.specs.Forgetting.{Call, run}

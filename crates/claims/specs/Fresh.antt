@@ -1,4 +1,4 @@
--- 01 "Forgetting rule": what an accepted design, set of ready-made taps or reset returns is fresh. Definitions only.
+-- 01 "Forgetting rule": what an accepted design, set of ready-made taps or reset returns is fresh.
 use mathlib.Core.Path.{_≡_}
 use mathlib.Core.Bool.{true}
 use mathlib.Core.List.{List}

@@ -1,4 +1,4 @@
--- A decimal's digits over its power of ten, and the one division: the nearest double. Assumes nothing.
+-- A decimal's digits over its power of ten, and the one division: the nearest double.
 use Prim.Native.Nat.{ℕ, zero, suc, _+_, _*_, _^_, _<_, _≤_}
 use mathlib.Core.Path.{_≡_, refl, sym, ap, _∙_, subst}
 use mathlib.Core.Bool.{Bool, true, false, _&&_, cond, false≢true}

@@ -1,4 +1,4 @@
--- What digits write: the loops over them, and how large it can be. Assumes nothing.
+-- What digits write: the loops over them, and how large it can be.
 use mathlib.Core.Path.{_≡_, refl, sym, ap, _∙_}
 use mathlib.Core.Bool.{Bool, true, false, _&&_, cond, and-false, false≢true}
 use mathlib.Core.List.{List, [], _∷_, _++_}

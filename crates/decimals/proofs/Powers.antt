@@ -1,4 +1,4 @@
--- The table of the powers of ten: its rule is one test over the whole table. Assumes nothing.
+-- The table of the powers of ten: its rule is one test over the whole table.
 use Prim.Native.Nat.{ℕ, _^_, _<_}
 use mathlib.Core.Path.{_≡_, sym, ap₂, _∙_}
 use mathlib.Core.Bool.{Bool, true, false}

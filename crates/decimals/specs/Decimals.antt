@@ -1,4 +1,4 @@
--- Digits as PROTOCOL.md has them: counts and decimals. Definitions only.
+-- Digits as PROTOCOL.md has them: counts and decimals.
 use Prim.Native.Nat.{ℕ, _+_, _-_, _*_, _^_}
 use mathlib.Core.Bool.{Bool, _&&_, cond}
 use mathlib.Core.List.{List, [], _∷_, _++_}

@@ -1,4 +1,4 @@
--- Every accepted cascade design is fresh. Assumes nothing.
+-- Every accepted cascade design is fresh.
 use mathlib.Core.Path.{_≡_, refl, sym, ap₂}
 use mathlib.Core.Bool.{Bool, true, false, cond, _||_}
 use mathlib.Core.List.{List, [], _∷_, _++_, map}

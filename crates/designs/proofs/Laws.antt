@@ -1,4 +1,4 @@
--- What a design shows where it returns. Assumes nothing.
+-- What a design shows where it returns.
 use mathlib.Core.Path.{_≡_}
 use Prim.Native.Nat.{ℕ}
 use borrow.Author.Tests.{eq-eqb, ne-eqb}

@@ -1,4 +1,4 @@
--- Sections put into their places one after the other, whatever type the code has for a section. Assumes nothing.
+-- Sections put into their places one after the other, whatever type the code has for a section.
 use mathlib.Core.Path.{_≡_, refl, sym, ap, _∙_}
 use mathlib.Core.List.{List, [], _∷_, _++_, map, append-assoc}
 use Prim.Native.Nat.{ℕ, zero, suc, _+_, _*_, _<_}

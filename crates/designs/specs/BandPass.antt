@@ -1,4 +1,4 @@
--- 000's band pass. Definitions only.
+-- 000's band pass.
 use Prim.Native.Nat.{ℕ, zero, suc, _/_, _%_}
 use mathlib.Core.Bool.{false, cond}
 use mathlib.Core.List.{List, [], _∷_, _++_}

@@ -1,4 +1,4 @@
--- 000's cutoff and angles, and the sections of its low pass and high pass. Definitions only.
+-- 000's cutoff and angles, and the sections of its low pass and high pass.
 use Prim.Native.Nat.{ℕ, _+_, _-_, _*_}
 use lib.Ieee.{Float}
 use Rattle.scalar.specs.Operators.{_⊗_, _⊘_, nat}

@@ -1,4 +1,4 @@
--- 001's poles, operation by operation in the Rust's order. Definitions only.
+-- 001's poles, operation by operation in the Rust's order.
 use Prim.Native.Nat.{ℕ, _+_, _*_}
 use lib.Ieee.{Float, binary64, neg}
 use Rattle.ieee.specs.Sqrt.{sqrtOf}

@@ -1,4 +1,4 @@
--- What a cascade design returns: its refusal number, or 0 and the cascade. Definitions only.
+-- What a cascade design returns: its refusal number, or 0 and the cascade.
 use Prim.Native.Nat.{ℕ, zero, suc}
 use mathlib.Core.Bool.{cond}
 use mathlib.Core.List.{List, [], _∷_}

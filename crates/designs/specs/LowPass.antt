@@ -1,4 +1,4 @@
--- What the designs of 000 and 001 but the band pass return. Definitions only.
+-- What the designs of 000 and 001 but the band pass return.
 use Prim.Native.Nat.{ℕ}
 use lib.Ieee.{Float}
 use Rattle.checks.specs.Checks.{validateParams, validateChebyshev}

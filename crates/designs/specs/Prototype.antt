@@ -1,4 +1,4 @@
--- From a prototype to a cascade: one section for each pole pair, and the first-order part of the real pole where the order is odd. Definitions only.
+-- From a prototype to a cascade: one section for each pole pair, and the first-order part of the real pole where the order is odd.
 use Prim.Native.Nat.{ℕ, _/_, _%_}
 use mathlib.Core.Bool.{false, cond}
 use lib.Dec.{eqb}

@@ -1,4 +1,4 @@
--- Bounds on the magnitude of a rounded number, and with them the ranges that sin, cos and exp reduce. Assumes nothing.
+-- Bounds on the magnitude of a rounded number, and with them the ranges that sin, cos and exp reduce.
 use mathlib.Core.Path.{_≡_, refl, sym, ap, _∙_, subst, subst⁻¹}
 use mathlib.Core.Bool.{Bool, true, false, cond, _&&_, _||_, true≢false}
 use Prim.Native.Nat.{ℕ, zero, suc, _+_, _-_, _*_, _/_, _^_, _≤_, _<_, zero-le}

@@ -1,4 +1,4 @@
--- Powers of two by their bit patterns. Assumes nothing.
+-- Powers of two by their bit patterns.
 use mathlib.Core.Path.{_≡_, refl, sym, ap, _∙_, subst}
 use mathlib.Core.Bool.{false}
 use Prim.Native.Nat.{ℕ, zero, suc, _+_, _-_, _*_, _/_, _^_, _≤_, _<_}

@@ -1,5 +1,5 @@
 -- The nearest whole number from what `nearest_magnitude` does: the whole part, the rest, which is exact, and its comparisons with 1/2. And what the nearest
--- whole number is, said without a way to compute it. Assumes nothing.
+-- whole number is, said without a way to compute it.
 use mathlib.Core.Path.{_≡_, refl, sym, ap, _∙_, subst}
 use mathlib.Core.Logic.{inl, inr}
 use mathlib.Core.Bool.{Bool, true, false, not, cond, _&&_, true≢false}

@@ -1,4 +1,4 @@
--- The machine's signed numbers at 64 bits. Assumes nothing.
+-- The machine's signed numbers at 64 bits.
 use mathlib.Core.Path.{_≡_, refl, ap, _∙_, subst}
 use mathlib.Core.Bool.{true, false, true≢false}
 use Prim.Native.Nat.{ℕ, zero, suc, _-_, _^_, _≤_, zero-le, suc-le-suc}

@@ -1,4 +1,4 @@
--- 01's exp and 10 to the y. Definitions only.
+-- 01's exp and 10 to the y.
 use Prim.Native.Nat.{_≤_}
 use mathlib.Core.Bool.{false, cond}
 use lib.IntN.{ℤ, pos, negsuc}

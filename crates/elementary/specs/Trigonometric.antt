@@ -1,4 +1,4 @@
--- 01's sin, cos and tan. Definitions only.
+-- 01's sin, cos and tan.
 use Prim.Native.Nat.{ℕ, zero, suc}
 use mathlib.Core.Bool.{Bool, cond}
 use lib.IntN.{ℤ}

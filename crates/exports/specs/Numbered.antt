@@ -1,4 +1,4 @@
--- The elementary functions by number. Definitions only.
+-- The elementary functions by number.
 use Prim.Native.Nat.{ℕ}
 use mathlib.Core.Bool.{cond}
 use lib.Dec.{eqb}

@@ -1,4 +1,4 @@
--- The loops of a long block: samples copied backward, the run of finite ones, and the count. Assumes nothing.
+-- The loops of a long block: samples copied backward, the run of finite ones, and the count.
 use mathlib.Core.Path.{_≡_, refl, sym, ap, _∙_, subst}
 use mathlib.Core.Bool.{Bool, true, false, cond}
 use mathlib.Core.List.{List, _++_, append-assoc}

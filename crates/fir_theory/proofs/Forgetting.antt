@@ -1,5 +1,5 @@
 -- The forgetting rule of a tap record, at every format and capacity: once a sample more is taken than was known to be held, or as many as there are taps, the
--- record holds just the samples that the plain filter uses. Assumes nothing.
+-- record holds just the samples that the plain filter uses.
 use Prim.Native.Nat.{ℕ, zero, suc, _≤_, min}
 use mathlib.Core.Path.{_≡_, refl, ap, ap₂, sym, _∙_}
 use mathlib.Core.Bool.{Bool, true, false, _||_, false≢true}

@@ -1,4 +1,4 @@
--- A record that holds no sample yet is fresh, so ready-made taps are, and so is what an accepted reset returns. Assumes nothing.
+-- A record that holds no sample yet is fresh, so ready-made taps are, and so is what an accepted reset returns.
 use mathlib.Core.Path.{_≡_, refl}
 use mathlib.Core.Bool.{Bool, true, false, cond}
 use mathlib.Core.List.{List}

@@ -1,5 +1,5 @@
 -- A record that holds as many samples as it has taps, over many samples: its answers as sums at places of a list that stands oldest first, and the record after
--- them. Assumes nothing.
+-- them.
 use mathlib.Core.Path.{_≡_, refl, sym, ap, ap₂, _∙_, subst}
 use mathlib.Core.Bool.{Bool, true, false, not, _||_, cond}
 use mathlib.Core.List.{List, [], _∷_, _++_, reverseAux}

@@ -1,4 +1,4 @@
--- Loops over taps and samples, the check, and what the functions return. Assumes nothing.
+-- Loops over taps and samples, the check, and what the functions return.
 use mathlib.Core.Path.{_≡_, refl, ap, ap₂, sym, _∙_}
 use mathlib.Core.Bool.{Bool, true, false, not, _&&_, _||_, cond, true≢false, false≢true, Bool·beq}
 use mathlib.Core.List.{List, [], _∷_, _++_, append-assoc, append-nil}

@@ -1,4 +1,4 @@
--- A long block from a full record: what its parts make together is what single steps make. Assumes nothing.
+-- A long block from a full record: what its parts make together is what single steps make.
 use mathlib.Core.Path.{_≡_, refl, sym, ap, _∙_}
 use mathlib.Core.Bool.{Bool, true, false, cond}
 use mathlib.Core.List.{List, [], _∷_, _++_, reverseAux}

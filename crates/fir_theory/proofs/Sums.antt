@@ -1,4 +1,4 @@
--- Sums side by side: the loop that adds one tap's products to all of them, and the loop over the taps. Assumes nothing.
+-- Sums side by side: the loop that adds one tap's products to all of them, and the loop over the taps.
 use mathlib.Core.Path.{_≡_, refl, sym, ap, ap₂, _∙_}
 use mathlib.Core.Bool.{Bool, true, false, and-false}
 use mathlib.Core.List.{List, [], _∷_, _++_, append-assoc}

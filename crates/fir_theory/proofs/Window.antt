@@ -1,4 +1,4 @@
--- A long block from a full record: what the window holds, the two stretches of outputs, and the newest samples. Assumes nothing.
+-- A long block from a full record: what the window holds, the two stretches of outputs, and the newest samples.
 use mathlib.Core.Path.{_≡_, refl, sym, ap, ap₂, _∙_, subst}
 use mathlib.Core.List.{List, [], _∷_, _++_, reverseAux, append-assoc}
 use Prim.Native.Nat.{ℕ, zero, suc, _+_, _-_, _<_, _≤_}

@@ -1,5 +1,5 @@
 -- 01 "Tap record" and its part of "Run answer": the check, ready-made taps, the number answered to a sample, the mark, and the record after it, for records
--- of any capacity. Definitions only.
+-- of any capacity.
 use Prim.Native.Nat.{ℕ, _+_, _-_, min}
 use mathlib.Core.Bool.{Bool, _&&_, cond}
 use mathlib.Core.List.{List, [], _∷_, _++_}

@@ -1,4 +1,4 @@
--- A tap record lent: its taps and its samples are slices, its length, held count and window code are numbers. Definitions only.
+-- A tap record lent: its taps and its samples are slices, its length, held count and window code are numbers.
 use Prim.Native.Nat.{ℕ}
 use mathlib.Core.Bool.{Bool, _&&_}
 use mathlib.Core.List.{List}

@@ -1,4 +1,4 @@
--- 01 "Forgetting rule": the plain filter of a tap record. Between calls it keeps samples and nothing else. Definitions only.
+-- 01 "Forgetting rule": the plain filter of a tap record. Between calls it keeps samples and nothing else.
 use mathlib.Core.List.{List}
 use Prim.Native.Nat.{ℕ}
 use lib.Dec.{leb}

@@ -1,4 +1,4 @@
--- 01: "sinh, cosh: (exp(a) − exp(−a)) × 0.5 and (exp(a) + exp(−a)) × 0.5. arcsinh as in 001": ln(x + √(x × x + 1)). Definitions only.
+-- 01: "sinh, cosh: (exp(a) − exp(−a)) × 0.5 and (exp(a) + exp(−a)) × 0.5. arcsinh as in 001": ln(x + √(x × x + 1)).
 use lib.Ieee.{Float, neg, binary64}
 use Rattle.ieee.specs.Sqrt.{sqrtOf}
 use Rattle.scalar.specs.Operators.{_⊕_, _⊖_, _⊗_}

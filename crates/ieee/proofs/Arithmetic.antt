@@ -1,4 +1,4 @@
--- `lib.Ieee`'s `add`, `sub`, `mul` and `div`, which are what `+`, `-`, `*` and `/` do, are IEEE 754's operations of `specs/Arithmetic.antt`. Assumes nothing.
+-- `lib.Ieee`'s `add`, `sub`, `mul` and `div`, which are what `+`, `-`, `*` and `/` do, are IEEE 754's operations of `specs/Arithmetic.antt`.
 use mathlib.Core.Path.{_≡_, refl, sym, ap, _∙_, subst}
 use mathlib.Core.Bool.{Bool, true, false, not, cond}
 use Prim.Native.Nat.{ℕ, zero, suc, _+_, _-_, _*_, _^_, _≤_, _<_}

@@ -1,4 +1,4 @@
--- `Sum`, `Difference`, `Product` and `Quotient` of `specs/Arithmetic.antt` each determine their result. Assumes nothing.
+-- `Sum`, `Difference`, `Product` and `Quotient` of `specs/Arithmetic.antt` each determine their result.
 use mathlib.Core.Path.{_≡_, sym, _∙_}
 use mathlib.Core.Logic.{inl, inr}
 use mathlib.Core.Bool.{Bool, true, false, _&&_}

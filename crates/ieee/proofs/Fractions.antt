@@ -1,5 +1,5 @@
 -- `lib.Ieee`'s `round` is rounding to nearest, ties to even, in the sense of `specs/Nearest.antt`: for every format, sign and fraction (`round-nearest`).
--- Assumes nothing.
+--
 use mathlib.Core.Path.{_≡_, refl, sym, ap, _∙_, subst}
 use mathlib.Core.Logic.{_⊎_, inl, inr}
 use mathlib.Core.Bool.{Bool, true, false, not, cond}

@@ -1,5 +1,5 @@
 -- A value of a format is a whole number of the format's smallest values. In that count: what values there are near q * 2 ^ k, and that q * 2 ^ k is nearest
--- to a real number ρ that is at most half a unit of 2 ^ k away (`nearest-of`). For any format, sign and ρ. Assumes nothing.
+-- to a real number ρ that is at most half a unit of 2 ^ k away (`nearest-of`). For any format, sign and ρ.
 use mathlib.Core.Path.{_≡_, sym, ap, _∙_, subst}
 use mathlib.Core.Logic.{_⊎_, inl, inr}
 use mathlib.Core.Bool.{Bool, true, false, not, _&&_}

@@ -1,4 +1,4 @@
--- Half the exponent: the record that `root_of_digits` hands on, from what `nearest_root` ensures. And a step of the loop that brings a subnormal's digits up. Assumes nothing.
+-- Half the exponent: the record that `root_of_digits` hands on, from what `nearest_root` ensures. And a step of the loop that brings a subnormal's digits up.
 use mathlib.Core.Path.{_≡_, sym, ap, _∙_}
 use Prim.Native.Nat.{ℕ, zero, suc, _+_, _-_, _*_, _/_, _%_, _^_, _≤_, _<_}
 use native.Mathlib.Nat.{mul-assoc, pow-succ', mul-one}

@@ -1,4 +1,4 @@
--- `sqrtOf` is the square root, for every format and every x (`sqrtOf-correct`). Assumes nothing.
+-- `sqrtOf` is the square root, for every format and every x (`sqrtOf-correct`).
 use mathlib.Core.Path.{_≡_, refl, sym, subst}
 use mathlib.Core.Bool.{Bool, true, false, not, cond}
 use Prim.Native.Nat.{ℕ, zero, suc, _+_, _-_, _*_, _/_, _^_, _≤_, _<_}

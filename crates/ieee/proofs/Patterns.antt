@@ -1,4 +1,4 @@
--- The bit patterns of the values of binary64 that are finite and not negative, and what `sqrt`'s steps say of them. Assumes nothing.
+-- The bit patterns of the values of binary64 that are finite and not negative, and what `sqrt`'s steps say of them.
 use mathlib.Core.Path.{_≡_, refl, sym, ap, _∙_, subst}
 use mathlib.Core.Logic.{inr}
 use Prim.Native.Nat.{ℕ, zero, suc, _+_, _-_, _*_, _/_, _%_, _^_, _≤_, _<_}

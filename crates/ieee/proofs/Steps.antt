@@ -1,4 +1,4 @@
--- The numbers of `nearest_root`'s loop. Nothing here is about floats. Assumes nothing.
+-- The numbers of `nearest_root`'s loop. Nothing here is about floats.
 use mathlib.Core.Path.{_≡_, ap, _∙_, subst}
 use Prim.Native.Nat.{ℕ, zero, suc, _+_, _-_, _*_, _/_, _^_, _≤_, _<_}
 use native.Mathlib.Nat.{pow-succ', eq-or-lt-of-le}

@@ -1,4 +1,4 @@
--- At most one value is nearest (`nearest-unique`), so `Sqrt` determines the root (`sqrt-unique`). Assumes nothing.
+-- At most one value is nearest (`nearest-unique`), so `Sqrt` determines the root (`sqrt-unique`).
 use mathlib.Core.Path.{_≡_, sym, ap, _∙_, subst}
 use mathlib.Core.Logic.{inl, inr}
 use mathlib.Core.Bool.{Bool, true, false, cond}

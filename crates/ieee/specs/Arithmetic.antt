@@ -1,5 +1,5 @@
 -- IEEE 754's addition, subtraction, multiplication and division (5.4.1), rounded to nearest with ties to even: what each result has to be, by the exact
--- result and `Nearest`, and by no way to compute it. Definitions only.
+-- result and `Nearest`, and by no way to compute it.
 use mathlib.Core.Path.{_≡_}
 use mathlib.Core.Bool.{Bool, true, false, _&&_}
 use Prim.Native.Nat.{ℕ, zero, suc, _+_, _-_, _*_, _<_}

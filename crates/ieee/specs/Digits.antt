@@ -1,4 +1,4 @@
--- What the steps of `sqrt` hand to one another, on bit patterns. Not part of what `sqrt` promises. Definitions only.
+-- What the steps of `sqrt` hand to one another, on bit patterns. Not part of what `sqrt` promises.
 use mathlib.Core.Path.{_≡_}
 use Prim.Native.Nat.{ℕ, _+_, _*_, _^_, _≤_, _<_}
 

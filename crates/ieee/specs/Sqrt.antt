@@ -1,4 +1,4 @@
--- IEEE 754's squareRoot (5.4.1), rounded to nearest with ties to even: as a relation, `Sqrt`, and as a function, `sqrtOf`. Definitions only.
+-- IEEE 754's squareRoot (5.4.1), rounded to nearest with ties to even: as a relation, `Sqrt`, and as a function, `sqrtOf`.
 use mathlib.Core.Path.{_≡_}
 use mathlib.Core.Bool.{true, false, cond}
 use Prim.Native.Nat.{ℕ, zero, suc, _+_, _*_, _/_, _^_}

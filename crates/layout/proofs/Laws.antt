@@ -1,4 +1,4 @@
--- The tests of lengths and flags. Assumes nothing.
+-- The tests of lengths and flags.
 use mathlib.Core.Path.{_≡_}
 use mathlib.Core.Bool.{Bool, true, false, cond}
 use mathlib.Core.List.{List}

@@ -1,4 +1,4 @@
--- Writing every place of a short list, and the tests of lengths. Assumes nothing.
+-- Writing every place of a short list, and the tests of lengths.
 use mathlib.Core.Path.{_≡_, refl, sym, ap, _∙_}
 use mathlib.Core.Bool.{Bool, true, false, _&&_, true≢false}
 use mathlib.Core.List.{List, [], _∷_, _++_, map, append-nil}

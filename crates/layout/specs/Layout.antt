@@ -1,4 +1,4 @@
--- How a cascade stands in slices that a caller lends: 32 numbers and 3 counts. Definitions only.
+-- How a cascade stands in slices that a caller lends: 32 numbers and 3 counts.
 use Prim.Native.Nat.{ℕ, _+_}
 use mathlib.Core.Bool.{Bool, _&&_, cond}
 use mathlib.Core.List.{List, [], _∷_, _++_}

@@ -1,4 +1,4 @@
--- A finite float above zero as m * 2 ^ e with 1 ≤ m < 2. Assumes nothing.
+-- A finite float above zero as m * 2 ^ e with 1 ≤ m < 2.
 use mathlib.Core.Path.{_≡_, refl, sym, ap, _∙_, subst, subst⁻¹}
 use mathlib.Core.Bool.{true, false, _&&_, true≢false}
 use Prim.Native.Nat.{ℕ, zero, suc, _+_, _-_, _*_, _/_, _%_, _^_, _≤_, _<_}

@@ -1,4 +1,4 @@
--- What the tests of `ln` leave: a finite number above 0. Assumes nothing.
+-- What the tests of `ln` leave: a finite number above 0.
 use mathlib.Core.Path.{_≡_, refl, sym, _∙_}
 use mathlib.Core.Bool.{Bool, true, false, not, true≢false}
 use Prim.Native.Nat.{zero, suc, _+_, _*_}

@@ -1,4 +1,4 @@
--- The machine's signed numbers at 64 bits: a - b, and z + 1. Assumes nothing.
+-- The machine's signed numbers at 64 bits: a - b, and z + 1.
 use mathlib.Core.Path.{_≡_, sym, ap, _∙_, subst⁻¹}
 use mathlib.Core.Bool.{Bool, true, false, cond}
 use Prim.Native.Nat.{ℕ, zero, suc, _+_, _-_, _≤_, _<_}

@@ -1,4 +1,4 @@
--- 01's ln. Definitions only.
+-- 01's ln.
 use Prim.Native.Nat.{_-_, _*_, _≤_, _<_}
 use lib.Dec.{T}
 use mathlib.Core.Bool.{true, false, cond}

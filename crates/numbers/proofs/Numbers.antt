@@ -1,4 +1,4 @@
--- The loop over hexadecimal digits, and the written forms of a float. Assumes nothing.
+-- The loop over hexadecimal digits, and the written forms of a float.
 use mathlib.Core.Path.{_≡_, refl, sym, ap, _∙_}
 use mathlib.Core.Bool.{and-false}
 use mathlib.Core.List.{List, [], _∷_}

@@ -1,4 +1,4 @@
--- Floats as PROTOCOL.md writes them. Definitions only.
+-- Floats as PROTOCOL.md writes them.
 use Prim.Native.Nat.{ℕ}
 use mathlib.Core.Bool.{true, false, _&&_, cond}
 use mathlib.Core.List.{List, [], _∷_}

@@ -1,4 +1,4 @@
--- 000's pole formulas of the low pass and the high pass, operation by operation in the Rust's order. Definitions only.
+-- 000's pole formulas of the low pass and the high pass, operation by operation in the Rust's order.
 use lib.Ieee.{Float, neg}
 use Rattle.scalar.specs.Operators.{_⊕_, _⊖_, _⊗_, _⊘_}
 use Rattle.scalar.specs.Constants.{one, two}

@@ -1,4 +1,4 @@
--- 001's pole formulas, operation by operation in the Rust's order. Definitions only.
+-- 001's pole formulas, operation by operation in the Rust's order.
 use lib.Ieee.{Float, neg}
 use Rattle.scalar.specs.Operators.{_⊕_, _⊖_, _⊗_, _⊘_}
 use Rattle.scalar.specs.Constants.{one, two}

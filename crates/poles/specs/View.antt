@@ -1,4 +1,4 @@
--- The code's type, read field by field. Definitions only.
+-- The code's type, read field by field.
 use Rattle.poles.specs.Butterworth.{DenominatorRecord}
 use Rattle.poles.specs.declared.butterworth.Denominator.{Denominator}
 

@@ -1,4 +1,4 @@
--- Loops that put bytes and digits into an output, the fewest digits of a number, and the text of a float. Assumes nothing.
+-- Loops that put bytes and digits into an output, the fewest digits of a number, and the text of a float.
 use mathlib.Core.Path.{_≡_, refl, sym, ap₂, _∙_}
 use mathlib.Core.Bool.{Bool, true, false, not}
 use mathlib.Core.List.{List, [], _∷_, _++_, append-assoc}

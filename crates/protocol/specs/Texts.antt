@@ -1,4 +1,4 @@
--- What an answer line is made of. Definitions only.
+-- What an answer line is made of.
 use Prim.Native.Nat.{ℕ, zero, suc, _+_, _-_, _/_, _%_, _^_, _≤_, _<_}
 use mathlib.Core.Path.{_≡_}
 use mathlib.Core.Bool.{Bool, cond}

@@ -1,4 +1,4 @@
--- 01's design request: its check, and the design of each kind. Definitions only.
+-- 01's design request: its check, and the design of each kind.
 use Prim.Native.Nat.{ℕ}
 use Rattle.cascade_theory.specs.Cascade.{CascadeRecord, blankCascade}
 use Rattle.fir_theory.specs.Fir.{TapsRecord, Made, blankTaps}

@@ -1,4 +1,4 @@
--- The code's types, read field by field. Definitions only.
+-- The code's types, read field by field.
 use Rattle.cascade.specs.View.{cascadeView}
 use Rattle.fir.specs.View.{tapsView}
 use Rattle.requests.specs.Request.{DesignedRecord}

@@ -1,4 +1,4 @@
--- The forgetting rule, once for any filter and its plain filter, from laws of one sample and of a reset. Assumes nothing.
+-- The forgetting rule, once for any filter and its plain filter, from laws of one sample and of a reset.
 use mathlib.Core.Path.{_≡_, refl, sym, ap, ap₂, _∙_}
 use mathlib.Core.Bool.{Bool, true, false, _&&_, _||_, cond, true≢false, or-false, or-true}
 use mathlib.Core.List.{List, [], _∷_, map, reverseAux, reverseAux-eq}

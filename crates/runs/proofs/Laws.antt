@@ -1,4 +1,4 @@
--- Laws of a step, a reset and a block, for any filter: what a function shows where it returns, and the loop of a block; and of refusal 1. Assumes nothing.
+-- Laws of a step, a reset and a block, for any filter: what a function shows where it returns, and the loop of a block; and of refusal 1.
 use mathlib.Core.Path.{_≡_, refl, sym, ap, ap₂, _∙_}
 use mathlib.Core.Bool.{Bool, true, false, _||_, cond, true≢false}
 use mathlib.Core.List.{List, [], _∷_, _++_, append-assoc}

@@ -1,4 +1,4 @@
--- Laws of records lent as slices, for any filter. Assumes nothing.
+-- Laws of records lent as slices, for any filter.
 use mathlib.Core.Path.{_≡_, refl, ap, _∙_}
 use mathlib.Core.Bool.{Bool, true, false, cond}
 use mathlib.Core.List.{List}

@@ -1,4 +1,4 @@
--- 01 "Forgetting rule", demand 3: a list of calls of one filter, the plain filter, and which of their outcomes are equal. Definitions only.
+-- 01 "Forgetting rule", demand 3: a list of calls of one filter, the plain filter, and which of their outcomes are equal.
 use Prim.Native.Nat.{ℕ, suc}
 use mathlib.Core.Path.{_≡_}
 use mathlib.Core.Bool.{Bool, true, false, _&&_, _||_, cond}

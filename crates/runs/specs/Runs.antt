@@ -1,4 +1,4 @@
--- 01 "Run answer": what a step, a block and a reset answer and leave, for any filter, given its check and what one sample does. Definitions only.
+-- 01 "Run answer": what a step, a block and a reset answer and leave, for any filter, given its check and what one sample does.
 use Prim.Native.Nat.{ℕ, _+_}
 use mathlib.Core.Path.{_≡_}
 use mathlib.Core.Bool.{Bool, true, false, not, _||_, cond}

@@ -1,4 +1,4 @@
--- The code's answer, case by case. Definitions only.
+-- The code's answer, case by case.
 use Rattle.runs.specs.Runs.{Answer, clear, clouded, refused}
 use Rattle.runs.specs.declared.Answer.{Answer as Declared}
 use Rattle.runs.specs.declared.Answer.the-variants.{Clear, Clouded, Refused}

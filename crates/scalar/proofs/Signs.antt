@@ -1,4 +1,4 @@
--- What the tests of a float against 0 and itself say: the absolute value, and NaN. Assumes nothing.
+-- What the tests of a float against 0 and itself say: the absolute value, and NaN.
 use mathlib.Core.Path.{_≡_, refl, sym, _∙_, subst}
 use mathlib.Core.Bool.{Bool, true, false, not, Bool·beq, _&&_, _||_, true≢false}
 use Prim.Native.Nat.{ℕ, zero, suc, _+_, _*_, _≤_, _<_, zero-le}

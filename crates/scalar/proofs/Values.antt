@@ -1,4 +1,4 @@
--- One value is written in one way, and differences of natural numbers as exponents. Assumes nothing.
+-- One value is written in one way, and differences of natural numbers as exponents.
 use mathlib.Core.Path.{_≡_, refl, sym, ap, _∙_}
 use mathlib.Core.Bool.{Bool, true, false, not, cond}
 use Prim.Native.Nat.{ℕ, suc, _+_, _-_, _*_, _≤_, _<_}

@@ -1,4 +1,4 @@
--- 004's constants at f64, by their bits: 01 gives those of PI and EPSILON. And ln 2 with its two parts, from 01's exp and ln. Definitions only.
+-- 004's constants at f64, by their bits: 01 gives those of PI and EPSILON. And ln 2 with its two parts, from 01's exp and ln.
 use lib.Ieee.{Float}
 use Rattle.scalar.specs.Operators.{bits}
 

@@ -1,4 +1,4 @@
--- Short names for arithmetic at binary64, rounded once in each step, and for the values of bit patterns and whole numbers. Definitions only.
+-- Short names for arithmetic at binary64, rounded once in each step, and for the values of bit patterns and whole numbers.
 use Prim.Native.Nat.{ℕ}
 use lib.IntN.{ℤ, pos}
 use lib.Ieee as Ieee

@@ -1,4 +1,4 @@
--- 01: "max(x, 0) is x where x > 0, else +0. The absolute value clears the sign bit." Definitions only.
+-- 01: "max(x, 0) is x where x > 0, else +0. The absolute value clears the sign bit."
 use mathlib.Core.Bool.{false, cond}
 use lib.Ieee as Ieee
 use lib.Ieee.{Float, nan, inf, fin}

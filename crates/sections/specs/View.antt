@@ -1,4 +1,4 @@
--- The code's types at f64, read field by field as the records of these definitions. Definitions only.
+-- The code's types at f64, read field by field as the records of these definitions.
 use Rattle.cascade_theory.specs.Section.{Biquad}
 use Rattle.cascade_theory.specs.FirstOrder.{FirstPart}
 use Rattle.sections.specs.declared.section.Section.{Section}

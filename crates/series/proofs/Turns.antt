@@ -1,4 +1,4 @@
--- Horner's loops, from the highest coefficient down: what is left to add after each turn. Assumes nothing.
+-- Horner's loops, from the highest coefficient down: what is left to add after each turn.
 use mathlib.Core.Path.{_≡_, refl, ap, _∙_}
 use Prim.Native.Nat.{ℕ, zero, suc, _+_, _-_, _*_, _≤_, _<_}
 use native.Mathlib.Omega.{arith}

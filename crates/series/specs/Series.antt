@@ -1,5 +1,5 @@
 -- 01: "A series is summed by Horner, highest coefficient first, each step coefficient + s × rest. Coefficients 1/k! are one division by k!, from a table of
--- the factorials up to 17!; 1/3 to 1/21 in ln are one division each." Definitions only.
+-- the factorials up to 17!; 1/3 to 1/21 in ln are one division each."
 use Prim.Native.Nat.{ℕ, zero, suc, _+_, _*_}
 use mathlib.Core.List.{List, [], _∷_}
 use lib.Ieee.{Float, neg}

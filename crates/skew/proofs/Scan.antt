@@ -1,4 +1,4 @@
--- Counting the samples that are not finite: some sample is not finite exactly when the count is above 0. Assumes nothing.
+-- Counting the samples that are not finite: some sample is not finite exactly when the count is above 0.
 use mathlib.Core.Path.{_≡_, refl, sym, _∙_}
 use mathlib.Core.Bool.{Bool, true, false, not, _||_, cond, or-false, or-true}
 use mathlib.Core.List.{List}

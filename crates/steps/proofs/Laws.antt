@@ -1,4 +1,4 @@
--- Single steps over an input: what a function shows where it returns. Assumes nothing.
+-- Single steps over an input: what a function shows where it returns.
 use mathlib.Core.Path.{_≡_}
 use mathlib.Core.List.{List}
 use Prim.Native.Nat.{ℕ, _<_, _≤_}

@@ -1,4 +1,4 @@
--- Single steps, one for each sample of an input, from a new record: the number that refuses, and the output. Definitions only.
+-- Single steps, one for each sample of an input, from a new record: the number that refuses, and the output.
 use Prim.Native.Nat.{ℕ}
 use mathlib.Core.Bool.{cond}
 use mathlib.Core.List.{List}

@@ -1,4 +1,4 @@
--- Runs of bytes of a kind, and bytes compared one by one. Assumes nothing.
+-- Runs of bytes of a kind, and bytes compared one by one.
 use mathlib.Core.Path.{_≡_, refl, sym, ap, _∙_}
 use mathlib.Core.Bool.{Bool, true, false, _&&_, cond, and-false}
 use mathlib.Core.List.{List, [], _∷_}

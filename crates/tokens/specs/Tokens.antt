@@ -1,4 +1,4 @@
--- Tokens of a line. A line is the list of its bytes. Definitions only.
+-- Tokens of a line. A line is the list of its bytes.
 use Prim.Native.Nat.{ℕ, suc, _+_}
 use mathlib.Core.Bool.{Bool, true, false, not, _&&_, _||_, cond}
 use mathlib.Core.List.{List, [], _∷_}

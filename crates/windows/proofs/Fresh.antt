@@ -1,4 +1,4 @@
--- Every accepted FIR design is fresh. Assumes nothing.
+-- Every accepted FIR design is fresh.
 use mathlib.Core.Path.{_≡_, refl}
 use mathlib.Core.Bool.{Bool, true, false, cond}
 use Prim.Native.Nat.{ℕ, _≤_}

@@ -1,4 +1,4 @@
--- The loops over the taps of a design, and what they leave. Assumes nothing.
+-- The loops over the taps of a design, and what they leave.
 use mathlib.Core.Path.{_≡_, refl, sym, ap, _∙_}
 use mathlib.Core.Bool.{Bool, true, false, cond}
 use mathlib.Core.List.{List, [], _∷_, _++_, map, append-assoc}

@@ -1,4 +1,4 @@
--- 002's windowed-sinc low pass, operation by operation in the Rust's order: its windows, its taps, and what it returns. Definitions only.
+-- 002's windowed-sinc low pass, operation by operation in the Rust's order: its windows, its taps, and what it returns.
 use Prim.Native.Nat.{ℕ, _-_}
 use mathlib.Core.Bool.{cond}
 use mathlib.Core.List.{List, [], _∷_, map}

@@ -1,4 +1,4 @@
--- `bandpass::bp_biquad_from_bp_pole_pair` meets its contract. Assumes nothing.
+-- `bandpass::bp_biquad_from_bp_pole_pair` meets its contract.
 use Rattle.bandpass.specs.BandPass.{bpBiquad}
 use borrow.Author.Needs.{needs}
 use Rattle.bandpass.proofs.bp_biquad_from_bp_pole_pair.Statement.{statement}

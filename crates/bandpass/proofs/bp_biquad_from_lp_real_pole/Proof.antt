@@ -1,4 +1,4 @@
--- `bandpass::bp_biquad_from_lp_real_pole` meets its contract. Assumes nothing.
+-- `bandpass::bp_biquad_from_lp_real_pole` meets its contract.
 use Rattle.bandpass.specs.BandPass.{bpReal}
 use borrow.Author.Needs.{needs}
 use Rattle.bandpass.proofs.bp_biquad_from_lp_real_pole.Statement.{statement}

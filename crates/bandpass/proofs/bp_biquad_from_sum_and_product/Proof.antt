@@ -1,4 +1,4 @@
--- `bandpass::bp_biquad_from_sum_and_product` meets its contract. Assumes nothing.
+-- `bandpass::bp_biquad_from_sum_and_product` meets its contract.
 use Rattle.bandpass.specs.BandPass.{bandBiquad}
 use borrow.Author.Needs.{needs}
 use Rattle.bandpass.proofs.bp_biquad_from_sum_and_product.Statement.{statement}

@@ -1,4 +1,4 @@
--- `bandpass::bp_biquads_from_lp_pole` meets its contract. Assumes nothing.
+-- `bandpass::bp_biquads_from_lp_pole` meets its contract.
 use Rattle.bandpass.specs.BandPass.{bpPair}
 use borrow.Author.Needs.{needs}
 use Rattle.bandpass.proofs.bp_biquads_from_lp_pole.Statement.{statement}

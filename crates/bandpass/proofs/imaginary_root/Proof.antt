@@ -1,4 +1,4 @@
--- `bandpass::imaginary_root` meets its contract. Assumes nothing.
+-- `bandpass::imaginary_root` meets its contract.
 use mathlib.Core.Path.{_∙_, ap, sym}
 use lib.Ieee.{lt}
 use Rattle.scalar.specs.Constants.{plusZero}

@@ -1,4 +1,4 @@
--- `blocks::block` meets its contract: a block of the first samples, one by one, and the rest behind it. Assumes nothing.
+-- `blocks::block` meets its contract: a block of the first samples, one by one, and the rest behind it.
 use Prim.Native.Nat.{_+_, _-_, _≤_, min}
 use mathlib.Core.Path.{_≡_, sym, ap, _∙_}
 use mathlib.Core.Bool.{true}

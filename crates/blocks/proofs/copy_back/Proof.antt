@@ -1,5 +1,5 @@
 use borrow.Author.Needs.{needs}
--- `blocks::copy_back` meets its contract. Assumes nothing.
+-- `blocks::copy_back` meets its contract.
 use Prim.Native.Nat.{_-_}
 use native.Mathlib.Omega.{arith}
 use Rattle.fir_theory.proofs.Copies.{Backing, back-start, back-turn, back-done}

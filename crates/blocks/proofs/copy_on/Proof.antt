@@ -1,6 +1,6 @@
 use Rattle.fir_theory.proofs.Copies.{on-turn, on-done}
 use borrow.Author.Needs.{needs}
--- `blocks::copy_on` meets its contract. Assumes nothing.
+-- `blocks::copy_on` meets its contract.
 use Prim.Native.Nat.{_-_}
 use native.Mathlib.Omega.{arith}
 use lib.ListN.{take, drop}

@@ -1,5 +1,5 @@
 use borrow.Author.Needs.{needs}
--- `blocks::count_clouded` meets its contract. Assumes nothing.
+-- `blocks::count_clouded` meets its contract.
 use Prim.Native.Nat.{_-_}
 use mathlib.Core.Logic.{⊎-elim}
 use borrow.Author.Tests.{lt-ltb, le-ltb}

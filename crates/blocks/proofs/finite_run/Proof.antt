@@ -1,5 +1,5 @@
 use borrow.Author.Needs.{needs}
--- `blocks::finite_run` meets its contract. Assumes nothing.
+-- `blocks::finite_run` meets its contract.
 use Prim.Native.Nat.{_-_}
 use mathlib.Core.Path.{sym, _∙_}
 use native.Mathlib.Omega.{arith}

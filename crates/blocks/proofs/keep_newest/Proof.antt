@@ -1,4 +1,4 @@
--- `blocks::keep_newest` meets its contract. Assumes nothing.
+-- `blocks::keep_newest` meets its contract.
 use native.Mathlib.Omega.{arith}
 use Rattle.fir_theory.proofs.Window.{newest-window, newest-input}
 use borrow.Author.Needs.{needs}

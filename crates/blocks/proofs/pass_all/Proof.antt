@@ -1,4 +1,4 @@
--- `blocks::pass_all` meets its contract. Assumes nothing.
+-- `blocks::pass_all` meets its contract.
 use Prim.Native.Nat.{_-_, min}
 use mathlib.Core.Path.{_≡_, refl}
 use mathlib.Core.Logic.{⊎-elim}

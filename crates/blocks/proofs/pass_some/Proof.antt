@@ -1,4 +1,4 @@
--- `blocks::pass_some` meets its contract. Assumes nothing.
+-- `blocks::pass_some` meets its contract.
 use Prim.Native.Nat.{_-_}
 use mathlib.Core.Path.{_≡_, sym, _∙_}
 use mathlib.Core.Bool.{true}

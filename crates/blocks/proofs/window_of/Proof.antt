@@ -1,4 +1,4 @@
--- `blocks::window_of` meets its contract. Assumes nothing.
+-- `blocks::window_of` meets its contract.
 use mathlib.Core.Path.{sym}
 use native.Mathlib.Omega.{arith}
 use Rattle.fir_theory.proofs.Window.{window-is}

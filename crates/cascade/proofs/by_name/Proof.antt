@@ -1,4 +1,4 @@
--- `cascade::by_name` meets its contract. Assumes nothing.
+-- `cascade::by_name` meets its contract.
 use mathlib.Core.Path.{_≡_}
 use native.Mathlib.Omega.{arith}
 use lib.ListN.{length}

@@ -1,4 +1,4 @@
--- `cascade::clouds` meets its contract. Assumes nothing.
+-- `cascade::clouds` meets its contract.
 use Rattle.cascade_theory.specs.Cascade.{clouding}
 use borrow.Author.Needs.{needs}
 use Rattle.cascade.proofs.clouds.Statement.{statement}

@@ -1,4 +1,4 @@
--- `checks::cutoff_refused` meets its contract. Assumes nothing.
+-- `checks::cutoff_refused` meets its contract.
 use mathlib.Core.Path.{_∙_}
 use Rattle.scalar.proofs.Signs.{nan-test}
 use Rattle.checks.specs.Checks.{cutoffRefused}

@@ -1,4 +1,4 @@
--- `checks::not_positive` meets its contract. Assumes nothing.
+-- `checks::not_positive` meets its contract.
 use mathlib.Core.Path.{_∙_}
 use Rattle.scalar.proofs.Signs.{nan-test}
 use Rattle.checks.specs.Checks.{notPositive}

@@ -1,4 +1,4 @@
--- `checks::order_refused` meets its contract. Assumes nothing.
+-- `checks::order_refused` meets its contract.
 use borrow.Author.Tests.{eq-eqb, ne-eqb}
 use Rattle.runs.specs.Refusals.{orderRefused}
 use Rattle.checks.proofs.order_refused.Statement.{statement}

@@ -1,4 +1,4 @@
--- `checks::validate_band` meets its contract. Assumes nothing.
+-- `checks::validate_band` meets its contract.
 use mathlib.Core.Path.{_∙_, sym}
 use Rattle.checks.specs.Checks.{validateBand}
 use borrow.Author.Needs.{needs}

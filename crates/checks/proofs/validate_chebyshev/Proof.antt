@@ -1,4 +1,4 @@
--- `checks::validate_chebyshev` meets its contract. Assumes nothing.
+-- `checks::validate_chebyshev` meets its contract.
 use mathlib.Core.Path.{_≡_, _∙_, refl, sym}
 use mathlib.Core.Bool.{Bool, true, false, cond}
 use Prim.Native.Nat.{ℕ, suc}

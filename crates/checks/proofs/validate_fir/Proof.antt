@@ -1,4 +1,4 @@
--- `checks::validate_fir` meets its contract. Assumes nothing.
+-- `checks::validate_fir` meets its contract.
 use mathlib.Core.Path.{_∙_, sym}
 use Rattle.checks.specs.Checks.{validateFir}
 use borrow.Author.Needs.{needs}

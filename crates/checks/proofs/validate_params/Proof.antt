@@ -1,4 +1,4 @@
--- `checks::validate_params` meets its contract. Assumes nothing.
+-- `checks::validate_params` meets its contract.
 use mathlib.Core.Path.{_∙_, sym}
 use Rattle.checks.specs.Checks.{validateParams}
 use borrow.Author.Needs.{needs}

@@ -1,4 +1,4 @@
--- `claims::accepted_designs_are_fresh` meets its contract. Assumes nothing.
+-- `claims::accepted_designs_are_fresh` meets its contract.
 use Rattle.fir_theory.specs.Lent.{capacity}
 use lib.Ieee.{binary64}
 use Rattle.cascade_theory.proofs.Forgetting as cascade

@@ -1,4 +1,4 @@
--- `claims::arithmetic_meets_ieee_754` meets its contract. Assumes nothing.
+-- `claims::arithmetic_meets_ieee_754` meets its contract.
 use Rattle.ieee.proofs.Arithmetic.{add-correct, sub-correct, mul-correct, div-correct}
 use Rattle.ieee.proofs.Model.{sqrtOf-correct}
 use Rattle.claims.proofs.arithmetic_meets_ieee_754.Statement.{statement}

@@ -1,4 +1,4 @@
--- `claims::cascade_forgets` meets its contract. Assumes nothing.
+-- `claims::cascade_forgets` meets its contract.
 use lib.Ieee.{binary64}
 use Rattle.cascade.specs.View.{cascadeView}
 use Rattle.cascade_theory.proofs.Forgetting.{forgets}

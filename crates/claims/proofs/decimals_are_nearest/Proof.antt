@@ -1,4 +1,4 @@
--- `claims::decimals_are_nearest` meets its contract. Assumes nothing.
+-- `claims::decimals_are_nearest` meets its contract.
 use Rattle.decimals.proofs.Decimals.{decimal-nearest}
 use Rattle.claims.proofs.decimals_are_nearest.Statement.{statement}
 use Rattle.claims.proofs.decimals_are_nearest.Tie as tie

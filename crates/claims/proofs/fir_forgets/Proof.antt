@@ -1,4 +1,4 @@
--- `claims::fir_forgets` meets its contract: the arrays of a tap record have 64 places. Assumes nothing.
+-- `claims::fir_forgets` meets its contract: the arrays of a tap record have 64 places.
 use mathlib.Core.Path.{_≡_}
 use lib.ListN.{length}
 use lib.Ieee.{binary64}

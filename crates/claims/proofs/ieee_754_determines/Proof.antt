@@ -1,4 +1,4 @@
--- `claims::ieee_754_determines` meets its contract. Assumes nothing.
+-- `claims::ieee_754_determines` meets its contract.
 use Rattle.ieee.proofs.Determined.{sum-unique, difference-unique, product-unique, quotient-unique}
 use Rattle.ieee.proofs.Unique.{sqrt-unique}
 use Rattle.claims.proofs.ieee_754_determines.Statement.{statement}

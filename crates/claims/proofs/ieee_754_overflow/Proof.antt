@@ -1,4 +1,4 @@
--- `claims::ieee_754_overflow` meets its contract. Assumes nothing.
+-- `claims::ieee_754_overflow` meets its contract.
 use Rattle.ieee.proofs.Overflow.{nearest-overflows}
 use Rattle.claims.proofs.ieee_754_overflow.Statement.{statement}
 use Rattle.claims.proofs.ieee_754_overflow.Tie as tie

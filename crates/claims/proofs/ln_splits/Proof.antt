@@ -1,4 +1,4 @@
--- `claims::ln_splits` meets its contract. Assumes nothing.
+-- `claims::ln_splits` meets its contract.
 use Rattle.logarithm.proofs.Digits.{splits}
 use Rattle.claims.proofs.ln_splits.Statement.{statement}
 use Rattle.claims.proofs.ln_splits.Tie as tie

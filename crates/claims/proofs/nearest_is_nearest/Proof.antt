@@ -1,4 +1,4 @@
--- `claims::nearest_is_nearest` meets its contract. Assumes nothing.
+-- `claims::nearest_is_nearest` meets its contract.
 use Rattle.elementary.proofs.Rest.{nearest-whole}
 use Rattle.claims.proofs.nearest_is_nearest.Statement.{statement}
 use Rattle.claims.proofs.nearest_is_nearest.Tie as tie

@@ -1,4 +1,4 @@
--- `convolution::add_scaled` meets its contract. Assumes nothing.
+-- `convolution::add_scaled` meets its contract.
 use Prim.Native.Nat.{_-_}
 use native.Mathlib.Omega.{arith}
 use lib.ListN.{length}

@@ -1,4 +1,4 @@
--- `convolution::convolve` meets its contract. Assumes nothing.
+-- `convolution::convolve` meets its contract.
 use mathlib.Core.Path.{sym, _∙_}
 use native.Mathlib.Omega.{arith}
 use borrow.Author.Tests.{not-true, not-false, leb-true}

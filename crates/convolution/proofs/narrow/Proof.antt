@@ -1,5 +1,5 @@
 use borrow.Author.Needs.{needs}
--- `convolution::narrow` meets its contract. Assumes nothing.
+-- `convolution::narrow` meets its contract.
 use Prim.Native.Nat.{_-_}
 use native.Mathlib.Omega.{arith}
 use lib.Ieee.{binary64}

@@ -1,4 +1,4 @@
--- `convolution::one` meets its contract. Assumes nothing.
+-- `convolution::one` meets its contract.
 use Prim.Native.Nat.{_-_, _≤_}
 use mathlib.Core.Path.{_≡_, refl}
 use native.Mathlib.Omega.{arith}

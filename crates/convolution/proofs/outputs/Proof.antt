@@ -1,4 +1,4 @@
--- `convolution::outputs` meets its contract. Assumes nothing.
+-- `convolution::outputs` meets its contract.
 use lib.Ieee.{binary64}
 use Rattle.fir_theory.proofs.Sums.{parts}
 use borrow.Author.Needs.{needs}

@@ -1,4 +1,4 @@
--- `convolution::put` meets its contract. Assumes nothing.
+-- `convolution::put` meets its contract.
 use Prim.Native.Nat.{_-_}
 use native.Mathlib.Omega.{arith}
 use lib.ListN.{length}

@@ -1,5 +1,5 @@
 use Rattle.fir_theory.proofs.Sums.{taps-turn, taps-done, sums-length}
--- `convolution::sixteen` meets its contract. Assumes nothing.
+-- `convolution::sixteen` meets its contract.
 use Prim.Native.Nat.{_-_, _≤_}
 use mathlib.Core.Path.{_≡_, refl, sym}
 use native.Mathlib.Omega.{arith}

@@ -1,5 +1,5 @@
 use borrow.Author.Needs.{needs}
--- `convolution::wide` meets its contract. Assumes nothing.
+-- `convolution::wide` meets its contract.
 use Prim.Native.Nat.{_-_}
 use native.Mathlib.Omega.{arith}
 use mathlib.Core.Path.{sym}

@@ -1,4 +1,4 @@
--- `convolution::within` meets its contract. Assumes nothing.
+-- `convolution::within` meets its contract.
 use Prim.Native.Nat.{_+_}
 use mathlib.Core.Path.{sym}
 use native.Mathlib.Omega.{arith}

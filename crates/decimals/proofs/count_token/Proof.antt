@@ -1,4 +1,4 @@
--- `decimals::count_token` meets its contract. Assumes nothing.
+-- `decimals::count_token` meets its contract.
 use Rattle.decimals.proofs.Digits.{count-letters, count-none, count-many, count-is}
 use borrow.Author.Needs.{needs}
 use Rattle.decimals.proofs.count_token.Statement.{statement}

@@ -1,4 +1,4 @@
--- `decimals::decimal` meets its contract. Assumes nothing.
+-- `decimals::decimal` meets its contract.
 use mathlib.Core.Path.{refl}
 use Prim.Native.Nat.{_^_}
 use native.Mathlib.Omega.{arith}

@@ -1,6 +1,6 @@
 use Rattle.decimals.proofs.Digits.{result-small}
 use mathlib.Core.Logic.{⊎-elim}
--- `decimals::decimal_after` meets its contract. Assumes nothing.
+-- `decimals::decimal_after` meets its contract.
 use Prim.Native.Nat.{_-_}
 use mathlib.Core.Path.{refl}
 use lib.ListN.{length}

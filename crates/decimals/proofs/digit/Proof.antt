@@ -1,5 +1,5 @@
 use native.Mathlib.Omega.{arith}
--- `decimals::digit` meets its contract. Assumes nothing.
+-- `decimals::digit` meets its contract.
 use mathlib.Core.Path.{sym, _∙_}
 use Rattle.decimals.specs.Decimals.{digit}
 use Rattle.decimals.proofs.Digits.{at-least}

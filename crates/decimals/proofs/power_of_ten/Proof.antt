@@ -1,4 +1,4 @@
--- `decimals::power_of_ten` meets its contract. Assumes nothing.
+-- `decimals::power_of_ten` meets its contract.
 use mathlib.Core.Path.{_∙_}
 use Rattle.decimals.proofs.Powers.{table, rule}
 use borrow.Author.Needs.{needs}

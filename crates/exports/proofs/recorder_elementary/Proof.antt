@@ -1,4 +1,4 @@
--- `exports::recorder_elementary` meets its contract. Assumes nothing.
+-- `exports::recorder_elementary` meets its contract.
 use borrow.Author.Tests.{ne-eqb}
 use lib.Ieee as Ieee
 use Rattle.exports.specs.Numbered.{numbered}

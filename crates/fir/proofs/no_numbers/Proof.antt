@@ -1,4 +1,4 @@
--- `fir::no_numbers` meets its contract. Assumes nothing.
+-- `fir::no_numbers` meets its contract.
 use mathlib.Core.Path.{refl}
 use lib.Ieee.{ofBits}
 use Rattle.fir.proofs.no_numbers.Statement.{statement}

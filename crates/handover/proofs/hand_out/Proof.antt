@@ -1,4 +1,4 @@
--- `handover::hand_out` meets its contract. Assumes nothing.
+-- `handover::hand_out` meets its contract.
 use mathlib.Core.Path.{_≡_, sym, _∙_}
 use mathlib.Core.Bool.{true}
 use borrow.Author.Tests.{not-true, not-false}

@@ -1,4 +1,4 @@
--- `handover::hand_out_taps` meets its contract. Assumes nothing.
+-- `handover::hand_out_taps` meets its contract.
 use mathlib.Core.Path.{_≡_, sym, _∙_}
 use mathlib.Core.Bool.{true}
 use mathlib.Core.List.{_∷_, []}

@@ -1,4 +1,4 @@
--- `handover::has_tap_places` meets its contract. Assumes nothing.
+-- `handover::has_tap_places` meets its contract.
 use borrow.Author.Tests.{eq-eqb, ne-eqb}
 use Rattle.calls.specs.Calls.{tapsPlaces}
 use Rattle.calls.proofs.Laws.{taps-last}

@@ -1,4 +1,4 @@
--- `handover::window_of` meets its contract. Assumes nothing.
+-- `handover::window_of` meets its contract.
 use borrow.Author.Tests.{ne-eqb}
 use Rattle.handover.proofs.window_of.Statement.{statement}
 use Rattle.handover.proofs.window_of.Tie as tie

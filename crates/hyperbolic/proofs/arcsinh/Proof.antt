@@ -1,4 +1,4 @@
--- `hyperbolic::arcsinh` meets its contract. Assumes nothing.
+-- `hyperbolic::arcsinh` meets its contract.
 use Rattle.hyperbolic.specs.Hyperbolic.{arcsinhOf}
 use borrow.Author.Needs.{needs}
 use Rattle.hyperbolic.proofs.arcsinh.Statement.{statement}

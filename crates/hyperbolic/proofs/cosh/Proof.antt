@@ -1,4 +1,4 @@
--- `hyperbolic::cosh` meets its contract. Assumes nothing.
+-- `hyperbolic::cosh` meets its contract.
 use Rattle.hyperbolic.specs.Hyperbolic.{coshOf}
 use borrow.Author.Needs.{needs}
 use Rattle.hyperbolic.proofs.cosh.Statement.{statement}

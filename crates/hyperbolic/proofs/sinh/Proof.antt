@@ -1,4 +1,4 @@
--- `hyperbolic::sinh` meets its contract. Assumes nothing.
+-- `hyperbolic::sinh` meets its contract.
 use Rattle.hyperbolic.specs.Hyperbolic.{sinhOf}
 use borrow.Author.Needs.{needs}
 use Rattle.hyperbolic.proofs.sinh.Statement.{statement}

@@ -1,4 +1,4 @@
--- `ieee::root_bits` meets its contract. The loop brings a subnormal's digits up to 53 and keeps m * 2 ^ e. The measure is e. Assumes nothing.
+-- `ieee::root_bits` meets its contract. The loop brings a subnormal's digits up to 53 and keeps m * 2 ^ e. The measure is e.
 use mathlib.Core.Path.{_≡_, refl, subst}
 use Prim.Native.Nat.{ℕ, _-_, _*_, _^_, _≤_, _<_}
 use native.Mathlib.Omega.{arith}

@@ -1,4 +1,4 @@
--- `ieee::root_of_digits` meets its contract: an even exponent is halved, and an odd one is halved with the digits doubled. Assumes nothing.
+-- `ieee::root_of_digits` meets its contract: an even exponent is halved, and an odd one is halved with the digits doubled.
 use borrow.Author.Needs.{needs}
 use native.Mathlib.Omega.{arith}
 use Rattle.ieee.proofs.Halves.{at-even, at-odd}

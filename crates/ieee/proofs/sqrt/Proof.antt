@@ -1,4 +1,4 @@
--- `ieee::sqrt` meets its contract, by the facts of proofs/Patterns.antt, and `sqrt-unique` with `sqrtOf-correct` for the value. Assumes nothing.
+-- `ieee::sqrt` meets its contract, by the facts of proofs/Patterns.antt, and `sqrt-unique` with `sqrtOf-correct` for the value.
 use mathlib.Core.Path.{_≡_, refl, sym, subst}
 use mathlib.Core.Bool.{Bool, not}
 use native.Mathlib.Omega.{arith}

@@ -1,4 +1,4 @@
--- `layout::assembled` meets its contract. Assumes nothing.
+-- `layout::assembled` meets its contract.
 use Rattle.layout.specs.Layout.{cascadeAt}
 use borrow.Author.Needs.{needs}
 use Rattle.layout.proofs.assembled.Statement.{statement}

@@ -1,4 +1,4 @@
--- `layout::fits` meets its contract. Assumes nothing.
+-- `layout::fits` meets its contract.
 use mathlib.Core.Path.{_≡_, sym, _∙_}
 use mathlib.Core.Bool.{true}
 use native.Mathlib.Omega.{arith}

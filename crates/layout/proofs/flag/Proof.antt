@@ -1,4 +1,4 @@
--- `layout::flag` meets its contract. Assumes nothing.
+-- `layout::flag` meets its contract.
 use Rattle.layout.proofs.flag.Statement.{statement}
 use Rattle.layout.proofs.flag.Tie as tie
 

@@ -1,4 +1,4 @@
--- `layout::has_places` meets its contract. Assumes nothing.
+-- `layout::has_places` meets its contract.
 use borrow.Author.Tests.{eq-eqb, ne-eqb}
 use Rattle.layout.specs.Layout.{cascadePlaces}
 use Rattle.layout.proofs.has_places.Statement.{statement}

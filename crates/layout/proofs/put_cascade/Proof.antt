@@ -1,4 +1,4 @@
--- `layout::put_cascade` meets its contract. Assumes nothing.
+-- `layout::put_cascade` meets its contract.
 use mathlib.Core.Path.{refl, _∙_}
 use mathlib.Core.List.{map}
 use Rattle.sections.specs.View.{sectionView, firstView}

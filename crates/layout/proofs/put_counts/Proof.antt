@@ -1,4 +1,4 @@
--- `layout::put_counts` meets its contract. Assumes nothing.
+-- `layout::put_counts` meets its contract.
 use mathlib.Core.Path.{sym, _∙_}
 use mathlib.Core.List.{_∷_, []}
 use lib.Dec.{eqb}

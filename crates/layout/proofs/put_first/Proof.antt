@@ -1,4 +1,4 @@
--- `layout::put_first` meets its contract. Assumes nothing.
+-- `layout::put_first` meets its contract.
 use native.Mathlib.Omega.{arith}
 use Rattle.layout.proofs.Places.{set-four}
 use borrow.Author.Needs.{needs}

@@ -1,4 +1,4 @@
--- `layout::put_section` meets its contract. Assumes nothing.
+-- `layout::put_section` meets its contract.
 use native.Mathlib.Omega.{arith}
 use lib.ListN.{length-set}
 use Rattle.layout.proofs.Places.{set-seven}

@@ -1,4 +1,4 @@
--- `layout::put_sections` meets its contract. Assumes nothing.
+-- `layout::put_sections` meets its contract.
 use native.Mathlib.Omega.{arith}
 use lib.ListN.{length}
 use mathlib.Core.Path.{_≡_}

@@ -1,4 +1,4 @@
--- `layout::set_counts` meets its contract. Assumes nothing.
+-- `layout::set_counts` meets its contract.
 use Rattle.layout.proofs.Places.{set-three}
 use borrow.Author.Needs.{needs}
 use Rattle.layout.proofs.set_counts.Statement.{statement}

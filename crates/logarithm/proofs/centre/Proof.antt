@@ -1,4 +1,4 @@
--- `logarithm::centre` meets its contract. Assumes nothing.
+-- `logarithm::centre` meets its contract.
 use mathlib.Core.Path.{subst⁻¹}
 use lib.IntN.{ℤ, pos, _+ℤ_}
 use mir.Syntax.{w64}

@@ -1,4 +1,4 @@
--- `logarithm::difference` meets its contract. Assumes nothing.
+-- `logarithm::difference` meets its contract.
 use mathlib.Core.Path.{ap, _∙_, subst⁻¹}
 use lib.IntN.{ℤ}
 use lib.Ieee.{minus}

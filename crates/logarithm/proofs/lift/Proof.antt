@@ -1,4 +1,4 @@
--- `logarithm::lift` meets its contract. The loop's invariant: q is t * 2 ^ j. The measure is what is left to 2 ^ 53. Assumes nothing.
+-- `logarithm::lift` meets its contract. The loop's invariant: q is t * 2 ^ j. The measure is what is left to 2 ^ 53.
 use mathlib.Core.Path.{_≡_}
 use Prim.Native.Nat.{_*_, _-_, _^_, _<_, _≤_}
 use native.Mathlib.Omega.{arith}

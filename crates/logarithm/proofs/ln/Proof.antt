@@ -1,4 +1,4 @@
--- `logarithm::ln` meets its contract. Assumes nothing.
+-- `logarithm::ln` meets its contract.
 use mathlib.Core.Path.{ap, sym, _∙_}
 use lib.Ieee as Ieee
 use Rattle.logarithm.specs.Logarithm.{lnOf}

@@ -1,4 +1,4 @@
--- `logarithm::ln_main` meets its contract. Assumes nothing.
+-- `logarithm::ln_main` meets its contract.
 use mir.Syntax.{w64}
 use mir.Val.{SFits}
 use mir.ValLaws.{toZ-ofZ}

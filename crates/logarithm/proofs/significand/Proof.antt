@@ -1,4 +1,4 @@
--- `logarithm::significand` meets its contract. Assumes nothing.
+-- `logarithm::significand` meets its contract.
 use Rattle.ieee.proofs.Patterns.{made, made-hi, below-no-nan}
 use lib.Dec.{lit<}
 use borrow.Author.Needs.{needs}

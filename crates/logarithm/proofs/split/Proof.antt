@@ -1,4 +1,4 @@
--- `logarithm::split` meets its contract: a subnormal's digits are lifted, and a normal number's have their leading one added. Assumes nothing.
+-- `logarithm::split` meets its contract: a subnormal's digits are lifted, and a normal number's have their leading one added.
 use mathlib.Core.Path.{sym, _∙_, subst⁻¹}
 use Prim.Native.Nat.{_<_, _+_, _/_, _^_}
 use native.Mathlib.Nat.{mod-lt, lt-trans, lt-of-le-of-lt}

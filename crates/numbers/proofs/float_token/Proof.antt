@@ -1,4 +1,4 @@
--- `numbers::float_token` meets its contract. Assumes nothing.
+-- `numbers::float_token` meets its contract.
 use mathlib.Core.Path.{_∙_}
 use Rattle.numbers.proofs.Numbers.{float-length, float-letters, float-bits}
 use borrow.Author.Needs.{needs}

@@ -1,4 +1,4 @@
--- `numbers::hexadecimal` meets its contract. Assumes nothing.
+-- `numbers::hexadecimal` meets its contract.
 use Prim.Native.Nat.{_-_}
 use mathlib.Core.Path.{refl}
 use lib.ListN.{length}

@@ -1,4 +1,4 @@
--- `numbers::named` meets its contract. Assumes nothing.
+-- `numbers::named` meets its contract.
 use lib.Ieee.{neg, div, ofBits}
 use Rattle.numbers.specs.Numbers.{named}
 use borrow.Author.Needs.{needs}

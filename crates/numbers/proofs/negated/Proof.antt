@@ -1,4 +1,4 @@
--- `numbers::negated` meets its contract. Assumes nothing.
+-- `numbers::negated` meets its contract.
 use Rattle.numbers.specs.Numbers.{negated}
 use borrow.Author.Needs.{needs}
 use Rattle.numbers.proofs.negated.Statement.{statement}

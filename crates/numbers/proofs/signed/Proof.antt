@@ -1,4 +1,4 @@
--- `numbers::signed` meets its contract. Assumes nothing.
+-- `numbers::signed` meets its contract.
 use mathlib.Core.Path.{ap, _∙_}
 use Rattle.numbers.specs.Numbers.{negated}
 use Rattle.numbers.proofs.Numbers.{signed-none, signed-minus, signed-plain}

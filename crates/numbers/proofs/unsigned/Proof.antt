@@ -1,4 +1,4 @@
--- `numbers::unsigned` meets its contract. Assumes nothing.
+-- `numbers::unsigned` meets its contract.
 use mathlib.Core.Path.{sym, _∙_}
 use lib.Seq.{length-take-le}
 use native.Mathlib.Omega.{arith}

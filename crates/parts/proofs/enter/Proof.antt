@@ -1,4 +1,4 @@
--- `parts::enter` meets its contract. Assumes nothing.
+-- `parts::enter` meets its contract.
 use mathlib.Core.Path.{refl}
 use borrow.Author.Needs.{needs}
 use Rattle.parts.proofs.enter.Statement.{statement}

@@ -1,4 +1,4 @@
--- `parts::pass_sections` meets its contract: four turns. Assumes nothing.
+-- `parts::pass_sections` meets its contract: four turns.
 use mathlib.Core.Path.{_≡_}
 use native.Mathlib.Omega.{arith}
 use lib.ListN.{length}

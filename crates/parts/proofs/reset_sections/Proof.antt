@@ -1,4 +1,4 @@
--- `parts::reset_sections` meets its contract. The loop's invariant: the first i sections are cleared. The measure is how many are left. Assumes nothing.
+-- `parts::reset_sections` meets its contract. The loop's invariant: the first i sections are cleared. The measure is how many are left.
 use mathlib.Core.Path.{_≡_, _∙_}
 use mathlib.Core.List.{map}
 use Prim.Native.Nat.{_≤_, _<_, _-_}

@@ -1,4 +1,4 @@
--- `parts::turn` meets its contract. Assumes nothing.
+-- `parts::turn` meets its contract.
 use mathlib.Core.Path.{refl}
 use borrow.Author.Needs.{needs}
 use Rattle.parts.proofs.turn.Statement.{statement}

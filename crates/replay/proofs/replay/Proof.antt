@@ -1,4 +1,4 @@
--- `replay::replay` meets its contract. The measure is how many requests are left. Assumes nothing.
+-- `replay::replay` meets its contract. The measure is how many requests are left.
 use native.Mathlib.Omega.{arith}
 use borrow.Author.Needs.{needs}
 use Rattle.replay.proofs.replay.Statement.{statement}

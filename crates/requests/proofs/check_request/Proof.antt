@@ -1,4 +1,4 @@
--- `requests::check_request` meets its contract. Assumes nothing.
+-- `requests::check_request` meets its contract.
 use mathlib.Core.Path.{_∙_, ap, sym}
 use Rattle.requests.specs.Request.{checkRequest}
 use borrow.Author.Needs.{needs}

@@ -1,4 +1,4 @@
--- `requests::design` meets its contract. Assumes nothing.
+-- `requests::design` meets its contract.
 use mathlib.Core.Path.{_∙_, ap, sym}
 use Rattle.requests.specs.Request.{ofCascade, ofTaps, designOf}
 use borrow.Author.Needs.{needs}

@@ -1,4 +1,4 @@
--- `requests::of_cascade` meets its contract. Assumes nothing.
+-- `requests::of_cascade` meets its contract.
 use borrow.Author.Needs.{needs}
 use Rattle.requests.proofs.of_cascade.Statement.{statement}
 use Rattle.requests.proofs.of_cascade.Tie as tie

@@ -1,4 +1,4 @@
--- `requests::of_taps` meets its contract. Assumes nothing.
+-- `requests::of_taps` meets its contract.
 use borrow.Author.Needs.{needs}
 use Rattle.requests.proofs.of_taps.Statement.{statement}
 use Rattle.requests.proofs.of_taps.Tie as tie

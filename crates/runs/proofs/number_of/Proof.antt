@@ -1,4 +1,4 @@
--- `runs::number_of` meets its contract. Assumes nothing.
+-- `runs::number_of` meets its contract.
 use lib.Ieee.{ofBits}
 use borrow.Author.Needs.{needs}
 use Rattle.runs.proofs.number_of.Statement.{statement}

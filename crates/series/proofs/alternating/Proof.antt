@@ -1,4 +1,4 @@
--- `series::alternating` meets its contract. Assumes nothing.
+-- `series::alternating` meets its contract.
 use Rattle.series.specs.Series.{horner, alternatingOf}
 use borrow.Author.Needs.{needs}
 use Rattle.series.proofs.alternating.Statement.{statement}

@@ -1,4 +1,4 @@
--- `series::cos_rest` meets its contract. Assumes nothing.
+-- `series::cos_rest` meets its contract.
 use Rattle.series.specs.Series.{cosRest}
 use borrow.Author.Needs.{needs}
 use Rattle.series.proofs.cos_rest.Statement.{statement}

@@ -1,4 +1,4 @@
--- `series::exp_series` meets its contract. The loop's invariant: the coefficients from 1/j! on are summed. The measure is j. Assumes nothing.
+-- `series::exp_series` meets its contract. The loop's invariant: the coefficients from 1/j! on are summed. The measure is j.
 use mathlib.Core.Path.{_≡_, ap, _∙_}
 use Prim.Native.Nat.{ℕ, _-_, _≤_}
 use native.Mathlib.Omega.{arith}

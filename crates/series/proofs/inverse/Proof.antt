@@ -1,4 +1,4 @@
--- `series::inverse` meets its contract. Assumes nothing.
+-- `series::inverse` meets its contract.
 use mathlib.Core.Path.{refl}
 use Rattle.series.specs.Series.{inv}
 use borrow.Author.Needs.{needs}

@@ -1,5 +1,5 @@
 -- `series::inverse_factorial` meets its contract: the table's rule, that each entry is k! and an f64 holds it, is one test over the whole table.
--- Assumes nothing.
+--
 use Prim.Native.Nat.{ℕ, _^_, _<_}
 use mathlib.Core.Bool.{Bool}
 use mathlib.Core.List.{List, [], _∷_}

@@ -1,5 +1,5 @@
 -- `series::ln_series` meets its contract. The loop's invariant: k is 2 * i + 1, and the coefficients from 1/k on are summed. The measure is k.
--- Assumes nothing.
+--
 use mathlib.Core.Path.{_≡_, refl, ap, _∙_}
 use Prim.Native.Nat.{ℕ, _+_, _-_, _*_, _≤_}
 use native.Mathlib.Omega.{arith}

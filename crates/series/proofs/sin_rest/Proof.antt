@@ -1,4 +1,4 @@
--- `series::sin_rest` meets its contract. Assumes nothing.
+-- `series::sin_rest` meets its contract.
 use Rattle.series.specs.Series.{sinRest}
 use borrow.Author.Needs.{needs}
 use Rattle.series.proofs.sin_rest.Statement.{statement}

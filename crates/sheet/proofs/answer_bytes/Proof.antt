@@ -1,4 +1,4 @@
--- `sheet::answer_bytes` meets its contract. The part of the line that is lent has n bytes. Assumes nothing.
+-- `sheet::answer_bytes` meets its contract. The part of the line that is lent has n bytes.
 use mathlib.Core.Path.{sym}
 use lib.Seq.{length-take-le}
 use native.Mathlib.Omega.{arith}

@@ -1,4 +1,4 @@
--- `sheet::answer_chunk` meets its contract. The loop's invariant: the place is at most one past the chunk, and the lent arrays keep their lengths. Assumes nothing.
+-- `sheet::answer_chunk` meets its contract. The loop's invariant: the place is at most one past the chunk, and the lent arrays keep their lengths.
 use Prim.Native.Nat.{_≤_, _-_, _+_}
 use mathlib.Core.Path.{_≡_}
 use lib.ListN.{length}

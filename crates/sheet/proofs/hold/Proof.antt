@@ -1,4 +1,4 @@
--- `sheet::hold` meets its contract. The loop's invariant: its counter is at most the number of bytes, and the line keeps its length. Assumes nothing.
+-- `sheet::hold` meets its contract. The loop's invariant: its counter is at most the number of bytes, and the line keeps its length.
 use Prim.Native.Nat.{_≤_, _-_}
 use mathlib.Core.Path.{_≡_}
 use lib.ListN.{length}

@@ -1,4 +1,4 @@
--- `sheet::line_end` meets its contract. The loop's invariant: its counter lies from the place on, within the chunk. Assumes nothing.
+-- `sheet::line_end` meets its contract. The loop's invariant: its counter lies from the place on, within the chunk.
 use Prim.Native.Nat.{_≤_, _-_}
 use lib.ListN.{length}
 use borrow.Author.Needs.{needs}

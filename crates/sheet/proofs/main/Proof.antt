@@ -1,4 +1,4 @@
--- `sheet::main` meets its contract. The loop's invariant: the arrays keep their lengths. The measure is the number of turns that are left. Assumes nothing.
+-- `sheet::main` meets its contract. The loop's invariant: the arrays keep their lengths. The measure is the number of turns that are left.
 use mathlib.Core.Path.{_≡_}
 use lib.ListN.{length}
 use borrow.Author.Needs.{needs}

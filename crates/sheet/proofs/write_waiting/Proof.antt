@@ -1,4 +1,4 @@
--- `sheet::write_waiting` meets its contract. The part of the output that is lent has as many bytes as wait. Assumes nothing.
+-- `sheet::write_waiting` meets its contract. The part of the output that is lent has as many bytes as wait.
 use mathlib.Core.Path.{sym}
 use lib.Seq.{length-take-le}
 use native.Mathlib.Omega.{arith}

@@ -1,4 +1,4 @@
--- `skew::advance` meets its contract. Assumes nothing.
+-- `skew::advance` meets its contract.
 use borrow.Author.Needs.{needs}
 use lib.Ieee.{binary64}
 use Rattle.cascade_theory.specs.Skew.{lineOut}

@@ -1,4 +1,4 @@
--- `skew::drain` meets its contract. Assumes nothing.
+-- `skew::drain` meets its contract.
 use borrow.Author.Needs.{needs}
 use lib.Ieee.{binary64}
 use Rattle.cascade_theory.proofs.Skew.{went, drained-is}

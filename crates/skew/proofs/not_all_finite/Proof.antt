@@ -1,4 +1,4 @@
--- `skew::not_all_finite` meets its contract: a turn of its loop is a turn of `Counting`. Assumes nothing.
+-- `skew::not_all_finite` meets its contract: a turn of its loop is a turn of `Counting`.
 use Prim.Native.Nat.{_-_}
 use native.Mathlib.Omega.{arith}
 use lib.ListN.{length, getD}

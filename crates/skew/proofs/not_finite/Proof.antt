@@ -1,4 +1,4 @@
--- `skew::not_finite` meets its contract. Assumes nothing.
+-- `skew::not_finite` meets its contract.
 use borrow.Author.Needs.{needs}
 use Rattle.skew.proofs.not_finite.Statement.{statement}
 use Rattle.skew.proofs.not_finite.Tie as tie

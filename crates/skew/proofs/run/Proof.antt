@@ -1,4 +1,4 @@
--- `skew::run` meets its contract: a turn of its loop is a turn of `Behind`. Assumes nothing.
+-- `skew::run` meets its contract: a turn of its loop is a turn of `Behind`.
 use Prim.Native.Nat.{_+_, _-_, _*_, _^_, _<_, _≤_}
 use mathlib.Core.Path.{_≡_, refl}
 use native.Mathlib.Omega.{arith}

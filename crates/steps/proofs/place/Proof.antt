@@ -1,4 +1,4 @@
--- `steps::place` meets its contract. Assumes nothing.
+-- `steps::place` meets its contract.
 use borrow.Author.Needs.{needs}
 use Rattle.steps.proofs.place.Statement.{statement}
 use Rattle.steps.proofs.place.Tie as tie

@@ -1,4 +1,4 @@
--- `steps::run_fir` meets its contract. Assumes nothing.
+-- `steps::run_fir` meets its contract.
 use Prim.Native.Nat.{_≤_, _-_}
 use native.Mathlib.Omega.{arith}
 use lib.ListN.{length}

@@ -1,4 +1,4 @@
--- `steps::steps_cascade` meets its contract. Assumes nothing.
+-- `steps::steps_cascade` meets its contract.
 use mathlib.Core.Path.{ap, _∙_}
 use lib.Ieee.{binary64}
 use Rattle.cascade_theory.specs.Cascade.{cascade}

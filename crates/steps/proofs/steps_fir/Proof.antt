@@ -1,4 +1,4 @@
--- `steps::steps_fir` meets its contract. Assumes nothing.
+-- `steps::steps_fir` meets its contract.
 use mathlib.Core.Path.{ap, _∙_}
 use lib.Ieee.{binary64}
 use Rattle.fir_theory.specs.Fir.{Made, fir}

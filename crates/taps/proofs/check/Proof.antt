@@ -1,4 +1,4 @@
--- `taps::check` meets its contract. Assumes nothing.
+-- `taps::check` meets its contract.
 use borrow.Author.Tests.{lt-leb, le-leb}
 use Rattle.fir_theory.specs.Fir.{checkTaps}
 use Rattle.taps.proofs.check.Statement.{statement}

@@ -1,4 +1,4 @@
--- `taps::clear` meets its contract. Assumes nothing.
+-- `taps::clear` meets its contract.
 use Prim.Native.Nat.{_≤_, _<_, _-_}
 use mathlib.Core.Path.{refl}
 use native.Mathlib.Omega.{arith}

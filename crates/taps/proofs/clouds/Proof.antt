@@ -1,4 +1,4 @@
--- `taps::clouds` meets its contract. Assumes nothing.
+-- `taps::clouds` meets its contract.
 use mathlib.Core.Path.{sym, _∙_}
 use lib.Ieee.{binary64}
 use borrow.Author.Needs.{needs}

@@ -1,4 +1,4 @@
--- `taps::convolve` meets its contract. Assumes nothing.
+-- `taps::convolve` meets its contract.
 use Prim.Native.Nat.{_≤_, _-_}
 use mathlib.Core.Path.{refl}
 use native.Mathlib.Omega.{arith}

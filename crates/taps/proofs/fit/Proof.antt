@@ -1,4 +1,4 @@
--- `taps::fit` meets its contract. Assumes nothing.
+-- `taps::fit` meets its contract.
 use borrow.Author.Tests.{eq-eqb, ne-eqb}
 use Rattle.fir_theory.specs.Lent.{fits}
 use Rattle.taps.proofs.fit.Statement.{statement}

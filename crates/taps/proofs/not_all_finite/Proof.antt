@@ -1,4 +1,4 @@
--- `taps::not_all_finite` meets its contract. Assumes nothing.
+-- `taps::not_all_finite` meets its contract.
 use Prim.Native.Nat.{_≤_, _-_}
 use mathlib.Core.Path.{refl, sym, _∙_}
 use native.Mathlib.Omega.{arith}

@@ -1,4 +1,4 @@
--- `taps::pass` meets its contract. Assumes nothing.
+-- `taps::pass` meets its contract.
 use mathlib.Core.Path.{_≡_, ap, _∙_}
 use mathlib.Core.Logic.{⊎-elim}
 use native.Mathlib.Omega.{arith}

@@ -1,4 +1,4 @@
--- `taps::push` meets its contract. Assumes nothing.
+-- `taps::push` meets its contract.
 use Prim.Native.Nat.{_≤_, _-_}
 use mathlib.Core.Path.{_≡_}
 use native.Mathlib.Omega.{arith}

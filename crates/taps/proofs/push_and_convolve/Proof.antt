@@ -1,4 +1,4 @@
--- `taps::push_and_convolve` meets its contract. Assumes nothing.
+-- `taps::push_and_convolve` meets its contract.
 use Prim.Native.Nat.{_≤_, _-_}
 use mathlib.Core.Path.{_≡_, refl}
 use native.Mathlib.Omega.{arith}

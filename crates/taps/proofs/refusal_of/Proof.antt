@@ -1,4 +1,4 @@
--- `taps::refusal_of` meets its contract. Assumes nothing.
+-- `taps::refusal_of` meets its contract.
 use mathlib.Core.Path.{sym, _∙_}
 use lib.Ieee.{binary64}
 use borrow.Author.Tests.{not-true, not-false}

@@ -1,4 +1,4 @@
--- `taps::reset` meets its contract. Assumes nothing.
+-- `taps::reset` meets its contract.
 use mathlib.Core.Path.{sym, _∙_}
 use native.Mathlib.Omega.{arith}
 use lib.Ieee.{binary64}

@@ -1,4 +1,4 @@
--- `taps::update` meets its contract. Assumes nothing.
+-- `taps::update` meets its contract.
 use mathlib.Core.Path.{_≡_, sym, _∙_}
 use mathlib.Core.Bool.{true, false}
 use native.Mathlib.Omega.{arith}

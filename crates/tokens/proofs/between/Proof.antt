@@ -1,4 +1,4 @@
--- `tokens::between` meets its contract. Assumes nothing.
+-- `tokens::between` meets its contract.
 use borrow.Author.Tests.{lt-leb, le-leb}
 use Rattle.tokens.specs.Tokens.{between}
 use Rattle.tokens.proofs.between.Statement.{statement}

@@ -1,4 +1,4 @@
--- `tokens::is_hex_digit` meets its contract. Assumes nothing.
+-- `tokens::is_hex_digit` meets its contract.
 use Rattle.tokens.specs.Tokens.{isHexDigit}
 use borrow.Author.Needs.{needs}
 use Rattle.tokens.proofs.is_hex_digit.Statement.{statement}

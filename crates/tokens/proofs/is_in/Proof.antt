@@ -1,4 +1,4 @@
--- `tokens::is_in` meets its contract. Assumes nothing.
+-- `tokens::is_in` meets its contract.
 use Rattle.tokens.specs.Tokens.{inClass}
 use borrow.Author.Needs.{needs}
 use Rattle.tokens.proofs.is_in.Statement.{statement}

@@ -1,4 +1,4 @@
--- `tokens::next_token` meets its contract. Assumes nothing.
+-- `tokens::next_token` meets its contract.
 use Rattle.tokens.specs.Tokens.{inClass, nextToken}
 use borrow.Author.Needs.{needs}
 use Rattle.tokens.proofs.next_token.Statement.{statement}

@@ -1,4 +1,4 @@
--- `tokens::run_of` meets its contract. Assumes nothing.
+-- `tokens::run_of` meets its contract.
 use Prim.Native.Nat.{_-_}
 use mathlib.Core.Path.{refl, sym, _∙_}
 use borrow.Author.Tests.{not-true, not-false}

@@ -1,4 +1,4 @@
--- `tokens::same_bytes` meets its contract. Assumes nothing.
+-- `tokens::same_bytes` meets its contract.
 use Prim.Native.Nat.{_-_}
 use mathlib.Core.Path.{refl}
 use lib.ListN.{length}

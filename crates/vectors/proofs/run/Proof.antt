@@ -1,5 +1,5 @@
 -- `vectors::run` meets its contract. The loop's invariant: at most one vector agrees a turn. The measure falls by one a turn, from a number that no table reaches.
--- Assumes nothing.
+--
 use Prim.Native.Nat.{_≤_, _-_}
 use native.Mathlib.Omega.{arith}
 use borrow.Author.Needs.{needs}

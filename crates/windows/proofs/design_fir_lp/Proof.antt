@@ -1,4 +1,4 @@
--- `windows::design_fir_lp` meets its contract. Assumes nothing.
+-- `windows::design_fir_lp` meets its contract.
 use mathlib.Core.Path.{sym, ap, _∙_}
 use Rattle.fir_theory.specs.Fir.{TapsRecord}
 use Rattle.fir_theory.specs.Lent.{capacity}

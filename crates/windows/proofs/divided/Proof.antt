@@ -1,4 +1,4 @@
--- `windows::divided` meets its contract. Assumes nothing.
+-- `windows::divided` meets its contract.
 use Prim.Native.Nat.{_≤_, _-_}
 use mathlib.Core.Path.{_≡_, refl}
 use native.Mathlib.Omega.{arith}

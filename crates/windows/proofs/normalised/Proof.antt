@@ -1,4 +1,4 @@
--- `windows::normalised` meets its contract. Assumes nothing.
+-- `windows::normalised` meets its contract.
 use mathlib.Core.Path.{sym}
 use lib.ListN.{take-append-drop}
 use Rattle.windows.specs.Fir.{normalisedBy}

@@ -1,4 +1,4 @@
--- `windows::sinc` meets its contract. Assumes nothing.
+-- `windows::sinc` meets its contract.
 use Rattle.windows.specs.Fir.{sincOf}
 use borrow.Author.Needs.{needs}
 use Rattle.windows.proofs.sinc.Statement.{statement}

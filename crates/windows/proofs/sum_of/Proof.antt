@@ -1,4 +1,4 @@
--- `windows::sum_of` meets its contract. Assumes nothing.
+-- `windows::sum_of` meets its contract.
 use Prim.Native.Nat.{_≤_, _-_}
 use mathlib.Core.Path.{refl}
 use native.Mathlib.Omega.{arith}

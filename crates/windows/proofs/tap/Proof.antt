@@ -1,4 +1,4 @@
--- `windows::tap` meets its contract. Assumes nothing.
+-- `windows::tap` meets its contract.
 use Prim.Native.Nat.{_-_}
 use native.Mathlib.Omega.{arith}
 use Rattle.windows.specs.Fir.{tapOf}

@@ -1,4 +1,4 @@
--- `windows::window_weight` meets its contract. Assumes nothing.
+-- `windows::window_weight` meets its contract.
 use Rattle.windows.specs.Fir.{weightOf}
 use borrow.Author.Needs.{needs}
 use Rattle.windows.proofs.window_weight.Statement.{statement}

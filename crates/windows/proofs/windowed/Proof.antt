@@ -1,4 +1,4 @@
--- `windows::windowed` meets its contract. Assumes nothing.
+-- `windows::windowed` meets its contract.
 use mathlib.Core.List.{_++_}
 use lib.ListN.{replicate}
 use Rattle.scalar.specs.Constants.{plusZero}

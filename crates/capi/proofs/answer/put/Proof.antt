@@ -1,4 +1,4 @@
--- `capi::answer::put` meets its contract. Assumes nothing.
+-- `capi::answer::put` meets its contract.
 use Rattle.layout.specs.Layout.{flag}
 use Rattle.layout.proofs.Places.{set-one}
 use borrow.Author.Needs.{needs}

@@ -1,4 +1,4 @@
--- `capi::answer::single` meets its contract. Assumes nothing.
+-- `capi::answer::single` meets its contract.
 use borrow.Author.Tests.{eq-eqb, ne-eqb}
 use Rattle.capi.proofs.answer.single.Statement.{statement}
 use Rattle.capi.proofs.answer.single.Tie as tie

@@ -1,4 +1,4 @@
--- `capi::cascades::pulse_cascade_reset` meets its contract. Assumes nothing.
+-- `capi::cascades::pulse_cascade_reset` meets its contract.
 use mathlib.Core.Path.{_≡_, sym, _∙_}
 use mathlib.Core.Bool.{true}
 use borrow.Author.Tests.{not-true, not-false}

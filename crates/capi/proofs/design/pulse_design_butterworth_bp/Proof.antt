@@ -1,4 +1,4 @@
--- `capi::design::pulse_design_butterworth_bp` meets its contract. Assumes nothing.
+-- `capi::design::pulse_design_butterworth_bp` meets its contract.
 use borrow.Author.Needs.{needs}
 use Rattle.capi.proofs.design.pulse_design_butterworth_bp.Statement.{statement}
 use Rattle.capi.proofs.design.pulse_design_butterworth_bp.Tie as tie

@@ -1,4 +1,4 @@
--- `capi::design::pulse_design_butterworth_hp` meets its contract. Assumes nothing.
+-- `capi::design::pulse_design_butterworth_hp` meets its contract.
 use borrow.Author.Needs.{needs}
 use Rattle.capi.proofs.design.pulse_design_butterworth_hp.Statement.{statement}
 use Rattle.capi.proofs.design.pulse_design_butterworth_hp.Tie as tie

@@ -1,4 +1,4 @@
--- `capi::design::pulse_design_butterworth_lp` meets its contract. Assumes nothing.
+-- `capi::design::pulse_design_butterworth_lp` meets its contract.
 use borrow.Author.Needs.{needs}
 use Rattle.capi.proofs.design.pulse_design_butterworth_lp.Statement.{statement}
 use Rattle.capi.proofs.design.pulse_design_butterworth_lp.Tie as tie

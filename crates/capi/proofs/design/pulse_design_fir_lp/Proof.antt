@@ -1,4 +1,4 @@
--- `capi::design::pulse_design_fir_lp` meets its contract. Assumes nothing.
+-- `capi::design::pulse_design_fir_lp` meets its contract.
 use borrow.Author.Tests.{lt-leb, le-leb}
 use Rattle.calls.specs.Calls.{firCall}
 use borrow.Author.Needs.{needs}

@@ -1,4 +1,4 @@
--- `capi::design::pulse_fir_from_coeffs` meets its contract. Assumes nothing.
+-- `capi::design::pulse_fir_from_coeffs` meets its contract.
 use borrow.Author.Needs.{needs}
 use Rattle.capi.proofs.design.pulse_fir_from_coeffs.Statement.{statement}
 use Rattle.capi.proofs.design.pulse_fir_from_coeffs.Tie as tie

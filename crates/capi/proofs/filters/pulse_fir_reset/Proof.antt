@@ -1,4 +1,4 @@
--- `capi::filters::pulse_fir_reset` meets its contract. Assumes nothing.
+-- `capi::filters::pulse_fir_reset` meets its contract.
 use Rattle.calls.specs.Kinds.{firKind}
 use Rattle.calls.proofs.Laws.{reset-unfit, uncounted, fir-reset-refused, fir-reset-accepted}
 use borrow.Author.Needs.{needs}

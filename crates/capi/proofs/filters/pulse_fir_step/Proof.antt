@@ -1,4 +1,4 @@
--- `capi::filters::pulse_fir_step` meets its contract. Assumes nothing.
+-- `capi::filters::pulse_fir_step` meets its contract.
 use mathlib.Core.Path.{_≡_, sym, _∙_}
 use mathlib.Core.Bool.{true, _&&_}
 use lib.Dec.{eqb}

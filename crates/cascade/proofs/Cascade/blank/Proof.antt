@@ -1,4 +1,4 @@
--- `cascade::Cascade::blank` meets its contract. Assumes nothing.
+-- `cascade::Cascade::blank` meets its contract.
 use borrow.Author.Needs.{needs}
 use Rattle.cascade.proofs.Cascade.blank.Statement.{statement}
 use Rattle.cascade.proofs.Cascade.blank.Tie as tie

@@ -1,4 +1,4 @@
--- `cascade::Cascade::block` meets its contract: skewed or plain, the block is the same. Assumes nothing.
+-- `cascade::Cascade::block` meets its contract: skewed or plain, the block is the same.
 use mathlib.Core.Path.{sym, _∙_}
 use borrow.Author.Tests.{not-true, not-false}
 use lib.Ieee.{binary64}

@@ -1,4 +1,4 @@
--- `cascade::Cascade::check` meets its contract. Assumes nothing.
+-- `cascade::Cascade::check` meets its contract.
 use borrow.Author.Tests.{lt-ltb, le-ltb, lt-leb, le-leb}
 use Rattle.cascade_theory.specs.Cascade.{checkCascade}
 use Rattle.cascade.proofs.Cascade.check.Statement.{statement}

@@ -1,4 +1,4 @@
--- `cascade::Cascade::moved` meets its contract. Assumes nothing.
+-- `cascade::Cascade::moved` meets its contract.
 use Rattle.cascade_theory.specs.Cascade.{value, moved}
 use borrow.Author.Needs.{needs}
 use Rattle.cascade.proofs.Cascade.moved.Statement.{statement}

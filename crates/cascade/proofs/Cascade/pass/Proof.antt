@@ -1,4 +1,4 @@
--- `cascade::Cascade::pass` meets its contract: the values that `moved` ensures, under the flag that `clouds` does. Assumes nothing.
+-- `cascade::Cascade::pass` meets its contract: the values that `moved` ensures, under the flag that `clouds` does.
 use mathlib.Core.Path.{_∙_, ap₂}
 use mathlib.Core.Bool.{_||_}
 use lib.Ieee.{Float}

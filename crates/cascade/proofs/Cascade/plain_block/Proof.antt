@@ -1,4 +1,4 @@
--- `cascade::Cascade::plain_block` meets its contract: a turn of its loop is a turn of `Running`. Assumes nothing.
+-- `cascade::Cascade::plain_block` meets its contract: a turn of its loop is a turn of `Running`.
 use Prim.Native.Nat.{_-_}
 use mathlib.Core.Logic.{⊎-elim}
 use native.Mathlib.Omega.{arith}

@@ -1,4 +1,4 @@
--- `cascade::Cascade::reset` meets its contract. Assumes nothing.
+-- `cascade::Cascade::reset` meets its contract.
 use mathlib.Core.Path.{sym, _∙_}
 use borrow.Author.Tests.{not-true, not-false}
 use lib.Ieee.{binary64}

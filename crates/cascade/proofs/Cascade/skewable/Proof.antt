@@ -1,4 +1,4 @@
--- `cascade::Cascade::skewable` meets its contract: each test that fails is a fact of `Skewable`. Assumes nothing.
+-- `cascade::Cascade::skewable` meets its contract: each test that fails is a fact of `Skewable`.
 use mathlib.Core.Path.{sym, _∙_}
 use mathlib.Core.Bool.{false≢true}
 use native.Mathlib.Omega.{arith}

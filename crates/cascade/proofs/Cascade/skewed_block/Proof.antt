@@ -1,4 +1,4 @@
--- `cascade::Cascade::skewed_block` meets its contract: a run of the four sections. Assumes nothing.
+-- `cascade::Cascade::skewed_block` meets its contract: a run of the four sections.
 use lib.Ieee.{binary64}
 use Rattle.cascade_theory.proofs.Skewed.{block-skewed}
 use borrow.Author.Needs.{needs}

@@ -1,4 +1,4 @@
--- `cascade::Cascade::update` meets its contract. Assumes nothing.
+-- `cascade::Cascade::update` meets its contract.
 use mathlib.Core.Path.{sym, _∙_}
 use mathlib.Core.Bool.{true, false}
 use borrow.Author.Tests.{not-true, not-false}

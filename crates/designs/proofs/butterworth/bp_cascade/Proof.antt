@@ -1,4 +1,4 @@
--- `designs::butterworth::bp_cascade` meets its contract. Assumes nothing.
+-- `designs::butterworth::bp_cascade` meets its contract.
 use Rattle.designs.specs.BandPass.{bpCascade}
 use borrow.Author.Needs.{needs}
 use Rattle.designs.proofs.butterworth.bp_cascade.Statement.{statement}

@@ -1,4 +1,4 @@
--- `designs::butterworth::bp_pair` meets its contract. Assumes nothing.
+-- `designs::butterworth::bp_pair` meets its contract.
 use Rattle.designs.specs.BandPass.{bpPairOf}
 use borrow.Author.Needs.{needs}
 use Rattle.designs.proofs.butterworth.bp_pair.Statement.{statement}

@@ -1,4 +1,4 @@
--- `designs::butterworth::bp_sections` meets its contract. Assumes nothing.
+-- `designs::butterworth::bp_sections` meets its contract.
 use mathlib.Core.Path.{_≡_}
 use Prim.Native.Nat.{_-_, _/_}
 use native.Mathlib.Omega.{arith}

@@ -1,4 +1,4 @@
--- `designs::butterworth::design_butterworth_bp` meets its contract. Assumes nothing.
+-- `designs::butterworth::design_butterworth_bp` meets its contract.
 use mathlib.Core.Path.{_∙_, sym, ap, ap₂}
 use Rattle.designs.specs.Design.{accepted, refusedDesign}
 use Rattle.designs.specs.BandPass.{bpCascade, butterworthBp}

@@ -1,4 +1,4 @@
--- `designs::butterworth::design_butterworth_hp` meets its contract. Assumes nothing.
+-- `designs::butterworth::design_butterworth_hp` meets its contract.
 use mathlib.Core.Path.{_∙_, sym, ap}
 use Rattle.designs.specs.Design.{accepted, refusedDesign}
 use Rattle.designs.specs.Prototype.{prototypeCascade}

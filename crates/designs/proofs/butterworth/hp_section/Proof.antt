@@ -1,4 +1,4 @@
--- `designs::butterworth::hp_section` meets its contract. Assumes nothing.
+-- `designs::butterworth::hp_section` meets its contract.
 use Rattle.designs.specs.Butterworth.{hpPair}
 use borrow.Author.Needs.{needs}
 use Rattle.designs.proofs.butterworth.hp_section.Statement.{statement}

@@ -1,4 +1,4 @@
--- `designs::butterworth::lp_section` meets its contract. Assumes nothing.
+-- `designs::butterworth::lp_section` meets its contract.
 use Rattle.designs.specs.Butterworth.{lpPair}
 use borrow.Author.Needs.{needs}
 use Rattle.designs.proofs.butterworth.lp_section.Statement.{statement}

@@ -1,4 +1,4 @@
--- `designs::butterworth::warp` meets its contract. Assumes nothing.
+-- `designs::butterworth::warp` meets its contract.
 use Rattle.designs.specs.Butterworth.{warped}
 use borrow.Author.Needs.{needs}
 use Rattle.designs.proofs.butterworth.warp.Statement.{statement}

@@ -1,4 +1,4 @@
--- `designs::chebyshev::cheb1_section` meets its contract. Assumes nothing.
+-- `designs::chebyshev::cheb1_section` meets its contract.
 use mathlib.Core.Path.{_∙_, ap}
 use Rattle.poles.specs.Chebyshev.{cheb1Biquad}
 use Rattle.designs.specs.Chebyshev.{PolePairRecord, cheb1Pair}

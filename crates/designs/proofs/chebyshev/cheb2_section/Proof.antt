@@ -1,4 +1,4 @@
--- `designs::chebyshev::cheb2_section` meets its contract. Assumes nothing.
+-- `designs::chebyshev::cheb2_section` meets its contract.
 use mathlib.Core.Path.{ap}
 use lib.Ieee.{neg}
 use Rattle.scalar.specs.Operators.{_⊕_, _⊗_, _⊘_}

@@ -1,4 +1,4 @@
--- `designs::chebyshev::chebyshev2_prototype` meets its contract. Assumes nothing.
+-- `designs::chebyshev::chebyshev2_prototype` meets its contract.
 use native.Mathlib.Omega.{arith}
 use Rattle.designs.specs.Chebyshev.{cheb2Prototype}
 use Rattle.checks.proofs.Laws.{small-float}

@@ -1,4 +1,4 @@
--- `designs::chebyshev::design_chebyshev1_lp` meets its contract. Assumes nothing.
+-- `designs::chebyshev::design_chebyshev1_lp` meets its contract.
 use mathlib.Core.Path.{_∙_, sym, ap}
 use Rattle.designs.specs.Design.{accepted, refusedDesign}
 use Rattle.designs.specs.Chebyshev.{cheb1Prototype}

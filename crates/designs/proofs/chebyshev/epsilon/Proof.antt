@@ -1,4 +1,4 @@
--- `designs::chebyshev::epsilon` meets its contract. Assumes nothing.
+-- `designs::chebyshev::epsilon` meets its contract.
 use Rattle.designs.specs.Chebyshev.{epsilonOf}
 use borrow.Author.Needs.{needs}
 use Rattle.designs.proofs.chebyshev.epsilon.Statement.{statement}

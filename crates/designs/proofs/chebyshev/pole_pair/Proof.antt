@@ -1,4 +1,4 @@
--- `designs::chebyshev::pole_pair` meets its contract. Assumes nothing.
+-- `designs::chebyshev::pole_pair` meets its contract.
 use Rattle.designs.specs.Chebyshev.{poleOf}
 use borrow.Author.Needs.{needs}
 use Rattle.designs.proofs.chebyshev.pole_pair.Statement.{statement}

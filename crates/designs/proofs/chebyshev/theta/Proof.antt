@@ -1,4 +1,4 @@
--- `designs::chebyshev::theta` meets its contract. Assumes nothing.
+-- `designs::chebyshev::theta` meets its contract.
 use mathlib.Core.Path.{refl}
 use Prim.Native.Nat.{_+_, _*_}
 use native.Mathlib.Omega.{arith}

@@ -1,4 +1,4 @@
--- `designs::prototype::design_from_prototype` meets its contract. Assumes nothing.
+-- `designs::prototype::design_from_prototype` meets its contract.
 use Rattle.designs.specs.Prototype.{prototypeCascade}
 use borrow.Author.Needs.{needs}
 use Rattle.designs.proofs.prototype.design_from_prototype.Statement.{statement}

@@ -1,4 +1,4 @@
--- `designs::prototype::first_from_pole` meets its contract. Assumes nothing.
+-- `designs::prototype::first_from_pole` meets its contract.
 use borrow.Author.Tests.{eq-eqb, ne-eqb}
 use Rattle.designs.specs.Prototype.{firstOf}
 use borrow.Author.Needs.{needs}

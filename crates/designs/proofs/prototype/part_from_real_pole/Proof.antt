@@ -1,4 +1,4 @@
--- `designs::prototype::part_from_real_pole` meets its contract. Assumes nothing.
+-- `designs::prototype::part_from_real_pole` meets its contract.
 use mathlib.Core.Path.{_∙_, ap, sym}
 use Rattle.designs.specs.Prototype.{realPart}
 use borrow.Author.Needs.{needs}

@@ -1,4 +1,4 @@
--- `designs::prototype::section_from_pair` meets its contract. Assumes nothing.
+-- `designs::prototype::section_from_pair` meets its contract.
 use mathlib.Core.Path.{_∙_, ap, sym}
 use Rattle.designs.specs.Prototype.{pairOf}
 use Rattle.designs.specs.declared.prototype.Prototype.{Prototype}

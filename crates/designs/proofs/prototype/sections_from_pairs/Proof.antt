@@ -1,5 +1,5 @@
 -- `designs::prototype::sections_from_pairs` meets its contract. The loop's invariant: the sections of the first m pairs are in place. The measure is how many
--- are left. Assumes nothing.
+-- are left.
 use mathlib.Core.Path.{_≡_, _∙_, ap}
 use mathlib.Core.List.{map}
 use Prim.Native.Nat.{ℕ, _≤_, _-_, _/_}

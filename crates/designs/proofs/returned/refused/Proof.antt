@@ -1,4 +1,4 @@
--- `designs::returned::refused` meets its contract. Assumes nothing.
+-- `designs::returned::refused` meets its contract.
 use borrow.Author.Needs.{needs}
 use Rattle.designs.proofs.returned.refused.Statement.{statement}
 use Rattle.designs.proofs.returned.refused.Tie as tie

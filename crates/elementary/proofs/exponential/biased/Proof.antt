@@ -1,4 +1,4 @@
--- `elementary::exponential::biased` meets its contract. Assumes nothing.
+-- `elementary::exponential::biased` meets its contract.
 use Rattle.ieee.proofs.Patterns.{below-no-nan}
 use Rattle.elementary.proofs.Powers.{biased-below, biased-is}
 use borrow.Author.Needs.{needs}

@@ -1,4 +1,4 @@
--- `elementary::exponential::exp` meets its contract. Assumes nothing.
+-- `elementary::exponential::exp` meets its contract.
 use mathlib.Core.Path.{_∙_, subst⁻¹}
 use lib.Ieee as Ieee
 use borrow.Author.Needs.{sfits-of}

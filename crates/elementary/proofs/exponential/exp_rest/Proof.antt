@@ -1,4 +1,4 @@
--- `elementary::exponential::exp_rest` meets its contract. Assumes nothing.
+-- `elementary::exponential::exp_rest` meets its contract.
 use mir.Syntax.{w64}
 use mir.ValLaws.{toZ-ofZ}
 use Rattle.elementary.specs.Exponential.{expRest}

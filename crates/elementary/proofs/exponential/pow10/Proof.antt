@@ -1,4 +1,4 @@
--- `elementary::exponential::pow10` meets its contract. Assumes nothing.
+-- `elementary::exponential::pow10` meets its contract.
 use Rattle.elementary.specs.Exponential.{pow10Of}
 use borrow.Author.Needs.{needs}
 use Rattle.elementary.proofs.exponential.pow10.Statement.{statement}

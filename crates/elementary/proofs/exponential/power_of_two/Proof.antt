@@ -1,4 +1,4 @@
--- `elementary::exponential::power_of_two` meets its contract. Assumes nothing.
+-- `elementary::exponential::power_of_two` meets its contract.
 use mathlib.Core.Path.{ap, _∙_}
 use mathlib.Core.Bool.{false}
 use Prim.Native.Nat.{ℕ, _+_, _-_, _≤_}

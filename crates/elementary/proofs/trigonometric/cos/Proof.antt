@@ -1,4 +1,4 @@
--- `elementary::trigonometric::cos` meets its contract. Assumes nothing.
+-- `elementary::trigonometric::cos` meets its contract.
 use mathlib.Core.Bool.{true, false}
 use lib.Ieee as Ieee
 use Rattle.elementary.specs.Trigonometric.{cosOf}

@@ -1,4 +1,4 @@
--- `elementary::trigonometric::cos_in` meets its contract. Assumes nothing.
+-- `elementary::trigonometric::cos_in` meets its contract.
 use Rattle.elementary.specs.Trigonometric.{cosAt}
 use Rattle.elementary.proofs.Words.{third}
 use borrow.Author.Needs.{needs}

@@ -1,4 +1,4 @@
--- `elementary::trigonometric::reduced` meets its contract. Assumes nothing.
+-- `elementary::trigonometric::reduced` meets its contract.
 use borrow.Author.Needs.{needs, sfits-of}
 use mir.Syntax.{w64}
 use mir.ValLaws.{toZ-ofZ}

@@ -1,4 +1,4 @@
--- `elementary::trigonometric::sin_in` meets its contract. Assumes nothing.
+-- `elementary::trigonometric::sin_in` meets its contract.
 use Rattle.elementary.specs.Trigonometric.{sinAt}
 use Rattle.elementary.proofs.Words.{third}
 use borrow.Author.Needs.{needs}

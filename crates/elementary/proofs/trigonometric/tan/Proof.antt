@@ -1,4 +1,4 @@
--- `elementary::trigonometric::tan` meets its contract. Assumes nothing.
+-- `elementary::trigonometric::tan` meets its contract.
 use Rattle.elementary.specs.Trigonometric.{tanOf}
 use borrow.Author.Needs.{needs}
 use Rattle.elementary.proofs.trigonometric.tan.Statement.{statement}

@@ -1,4 +1,4 @@
--- `elementary::whole::magnitude` meets its contract. Assumes nothing.
+-- `elementary::whole::magnitude` meets its contract.
 use mathlib.Core.Path.{_≡_, ap, _∙_, subst⁻¹}
 use lib.IntN.{ℤ, pos, negsuc, natAbs, _-ℤ_}
 use lib.Signed.{nonNeg, mag, ltZ}

@@ -1,4 +1,4 @@
--- `elementary::whole::modulo_four` meets its contract. Assumes nothing.
+-- `elementary::whole::modulo_four` meets its contract.
 use mathlib.Core.Path.{ap, _∙_, sym}
 use Prim.Native.Nat.{ℕ, _-_, _%_}
 use lib.Signed.{mag}

@@ -1,4 +1,4 @@
--- `elementary::whole::nearest` meets its contract. Assumes nothing.
+-- `elementary::whole::nearest` meets its contract.
 use mathlib.Core.Path.{_≡_, sym, ap, _∙_, subst⁻¹}
 use Prim.Native.Nat.{ℕ, _≤_, _^_}
 use native.Mathlib.Nat.{le-trans, le-of-eq, lt-of-le-of-lt}

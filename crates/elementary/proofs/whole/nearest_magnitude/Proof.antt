@@ -1,4 +1,4 @@
--- `elementary::whole::nearest_magnitude` meets its contract. Assumes nothing.
+-- `elementary::whole::nearest_magnitude` meets its contract.
 use mathlib.Core.Path.{sym, subst}
 use native.Mathlib.Omega.{arith}
 use lib.IntN.{pos}

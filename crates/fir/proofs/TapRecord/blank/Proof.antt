@@ -1,4 +1,4 @@
--- `fir::TapRecord::blank` meets its contract. Assumes nothing.
+-- `fir::TapRecord::blank` meets its contract.
 use borrow.Author.Needs.{needs}
 use Rattle.fir.proofs.TapRecord.blank.Statement.{statement}
 use Rattle.fir.proofs.TapRecord.blank.Tie as tie

@@ -1,4 +1,4 @@
--- `fir::TapRecord::from_coeffs` meets its contract. Assumes nothing.
+-- `fir::TapRecord::from_coeffs` meets its contract.
 use Prim.Native.Nat.{_≤_, _-_}
 use native.Mathlib.Omega.{arith}
 use Rattle.fir_theory.specs.Fir.{zeros}

@@ -1,4 +1,4 @@
--- `fir::TapRecord::update` meets its contract. Assumes nothing.
+-- `fir::TapRecord::update` meets its contract.
 use mathlib.Core.Path.{_≡_, _∙_}
 use lib.Ieee.{binary64}
 use lib.ListN.{length}

@@ -1,4 +1,4 @@
--- `ieee::bits::from_bits` meets its contract. Assumes nothing.
+-- `ieee::bits::from_bits` meets its contract.
 use mathlib.Core.Path.{_≡_, refl, sym, _∙_}
 use lib.Ieee.{binary64, nan, div, ofBits}
 use Rattle.ieee.proofs.Patterns.{nan-pattern, number-pattern}

@@ -1,4 +1,4 @@
--- `ieee::bits::to_bits` meets its contract. Assumes nothing.
+-- `ieee::bits::to_bits` meets its contract.
 use mathlib.Core.Path.{sym, ap}
 use lib.Ieee.{binary64, toBits}
 use Rattle.ieee.proofs.Patterns.{differs-nan, same-number}

@@ -1,4 +1,4 @@
--- `poles::butterworth::denominator_of` meets its contract. Assumes nothing.
+-- `poles::butterworth::denominator_of` meets its contract.
 use mathlib.Core.Path.{refl}
 use Rattle.poles.specs.Butterworth.{denominatorOf}
 use Rattle.poles.proofs.butterworth.denominator_of.Statement.{statement}

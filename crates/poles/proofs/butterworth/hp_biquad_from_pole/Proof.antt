@@ -1,4 +1,4 @@
--- `poles::butterworth::hp_biquad_from_pole` meets its contract. Assumes nothing.
+-- `poles::butterworth::hp_biquad_from_pole` meets its contract.
 use mathlib.Core.Path.{_∙_, ap}
 use lib.Ieee.{neg}
 use Rattle.scalar.specs.Operators.{_⊘_}

@@ -1,4 +1,4 @@
--- `poles::butterworth::hp_first_order_from_pole` meets its contract. Assumes nothing.
+-- `poles::butterworth::hp_first_order_from_pole` meets its contract.
 use Rattle.poles.specs.Butterworth.{hpFirst}
 use borrow.Author.Needs.{needs}
 use Rattle.poles.proofs.butterworth.hp_first_order_from_pole.Statement.{statement}

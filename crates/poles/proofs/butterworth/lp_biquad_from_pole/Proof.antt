@@ -1,4 +1,4 @@
--- `poles::butterworth::lp_biquad_from_pole` meets its contract. Assumes nothing.
+-- `poles::butterworth::lp_biquad_from_pole` meets its contract.
 use mathlib.Core.Path.{_∙_, ap}
 use Rattle.scalar.specs.Operators.{_⊗_, _⊘_}
 use Rattle.scalar.specs.Constants.{two}

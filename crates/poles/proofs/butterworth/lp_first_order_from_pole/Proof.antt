@@ -1,4 +1,4 @@
--- `poles::butterworth::lp_first_order_from_pole` meets its contract. Assumes nothing.
+-- `poles::butterworth::lp_first_order_from_pole` meets its contract.
 use Rattle.poles.specs.Butterworth.{lpFirst}
 use borrow.Author.Needs.{needs}
 use Rattle.poles.proofs.butterworth.lp_first_order_from_pole.Statement.{statement}

@@ -1,4 +1,4 @@
--- `poles::chebyshev::cheb1_lp_first_order` meets its contract. Assumes nothing.
+-- `poles::chebyshev::cheb1_lp_first_order` meets its contract.
 use Rattle.poles.specs.Chebyshev.{chebFirst}
 use borrow.Author.Needs.{needs}
 use Rattle.poles.proofs.chebyshev.cheb1_lp_first_order.Statement.{statement}

@@ -1,4 +1,4 @@
--- `poles::chebyshev::cheb2_lp_biquad` meets its contract. Assumes nothing.
+-- `poles::chebyshev::cheb2_lp_biquad` meets its contract.
 use mathlib.Core.Path.{_∙_, ap}
 use Rattle.scalar.specs.Operators.{_⊕_, _⊖_, _⊗_, _⊘_}
 use Rattle.scalar.specs.Constants.{one, two}

@@ -1,4 +1,4 @@
--- `protocol::print::glyph` meets its contract. Assumes nothing.
+-- `protocol::print::glyph` meets its contract.
 use borrow.Author.Tests.{lt-ltb, le-ltb}
 use borrow.Author.Needs.{needs}
 use Rattle.protocol.specs.Texts.{glyph}

@@ -1,4 +1,4 @@
--- `protocol::print::has_room` meets its contract. Assumes nothing.
+-- `protocol::print::has_room` meets its contract.
 use Prim.Native.Nat.{_+_}
 use mathlib.Core.Path.{sym}
 use native.Mathlib.Omega.{arith}

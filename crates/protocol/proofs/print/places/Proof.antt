@@ -1,4 +1,4 @@
--- `protocol::print::places` meets its contract. Assumes nothing.
+-- `protocol::print::places` meets its contract.
 use native.Mathlib.Omega.{arith}
 use Rattle.protocol.proofs.Texts.{Counting, count-start, count-turn, count-done}
 use Rattle.protocol.proofs.print.places.Statement.{statement}

@@ -1,4 +1,4 @@
--- `protocol::print::put_bytes` meets its contract. Assumes nothing.
+-- `protocol::print::put_bytes` meets its contract.
 use Prim.Native.Nat.{_≤_, _+_, _-_}
 use mathlib.Core.Path.{refl, sym, _∙_}
 use native.Mathlib.Omega.{arith}

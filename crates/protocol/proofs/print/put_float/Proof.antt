@@ -1,4 +1,4 @@
--- `protocol::print::put_float` meets its contract. Assumes nothing.
+-- `protocol::print::put_float` meets its contract.
 use borrow.Author.Needs.{needs}
 use Rattle.protocol.proofs.Texts.{length-digits, nan-text, number-text}
 use Rattle.protocol.proofs.print.put_float.Statement.{statement}

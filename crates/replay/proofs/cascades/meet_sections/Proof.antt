@@ -1,4 +1,4 @@
--- `replay::cascades::meet_sections` meets its contract. The counter is at most 4. Assumes nothing.
+-- `replay::cascades::meet_sections` meets its contract. The counter is at most 4.
 use Prim.Native.Nat.{_≤_, _-_}
 use native.Mathlib.Omega.{arith}
 use borrow.Author.Needs.{needs}

@@ -1,4 +1,4 @@
--- `replay::compare::floats` meets its contract. The counter is at most 256, and the array keeps its length. Assumes nothing.
+-- `replay::compare::floats` meets its contract. The counter is at most 256, and the array keeps its length.
 use Prim.Native.Nat.{_≤_, _-_}
 use native.Mathlib.Omega.{arith}
 use borrow.Author.Needs.{needs}

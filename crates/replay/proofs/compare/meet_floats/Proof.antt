@@ -1,4 +1,4 @@
--- `replay::compare::meet_floats` meets its contract. The counter is at most 256. Assumes nothing.
+-- `replay::compare::meet_floats` meets its contract. The counter is at most 256.
 use Prim.Native.Nat.{_≤_, _-_}
 use native.Mathlib.Omega.{arith}
 use borrow.Author.Needs.{needs}

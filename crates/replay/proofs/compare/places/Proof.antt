@@ -1,4 +1,4 @@
--- `replay::compare::places` meets its contract. The counter is at most 256, and the array keeps its length. Assumes nothing.
+-- `replay::compare::places` meets its contract. The counter is at most 256, and the array keeps its length.
 use Prim.Native.Nat.{_≤_, _-_}
 use mathlib.Core.Path.{_≡_}
 use lib.ListN.{length, length-set}

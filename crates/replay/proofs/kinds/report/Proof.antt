@@ -1,4 +1,4 @@
--- `replay::kinds::report` meets its contract. The counter is at most the number of kinds. Assumes nothing.
+-- `replay::kinds::report` meets its contract. The counter is at most the number of kinds.
 use Prim.Native.Nat.{_≤_, _-_}
 use native.Mathlib.Omega.{arith}
 use borrow.Author.Needs.{needs}

@@ -1,4 +1,4 @@
--- `replay::list::decoded` meets its contract. The counter is at most 16. Assumes nothing.
+-- `replay::list::decoded` meets its contract. The counter is at most 16.
 use Prim.Native.Nat.{_≤_, _-_}
 use native.Mathlib.Omega.{arith}
 use borrow.Author.Needs.{needs}

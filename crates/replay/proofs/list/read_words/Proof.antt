@@ -1,4 +1,4 @@
--- `replay::list::read_words` meets its contract. The counter is at most the number of places. Assumes nothing.
+-- `replay::list::read_words` meets its contract. The counter is at most the number of places.
 use Prim.Native.Nat.{_≤_, _-_}
 use native.Mathlib.Omega.{arith}
 use borrow.Author.Needs.{needs}

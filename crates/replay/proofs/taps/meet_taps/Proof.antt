@@ -1,4 +1,4 @@
--- `replay::taps::meet_taps` meets its contract. The counter is at most 64. Assumes nothing.
+-- `replay::taps::meet_taps` meets its contract. The counter is at most 64.
 use Prim.Native.Nat.{_≤_, _-_}
 use native.Mathlib.Omega.{arith}
 use borrow.Author.Needs.{needs}

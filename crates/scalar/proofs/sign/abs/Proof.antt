@@ -1,4 +1,4 @@
--- `scalar::sign::abs` meets its contract. Assumes nothing.
+-- `scalar::sign::abs` meets its contract.
 use denote.Floats.{passes}
 use lib.Ieee.{fits, binary64}
 use Rattle.scalar.proofs.Signs.{abs-neg, abs-zero, abs-pos}

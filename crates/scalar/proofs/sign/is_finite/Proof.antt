@@ -1,4 +1,4 @@
--- `scalar::sign::is_finite` meets its contract: a float lies between the two infinities just where it is finite. Assumes nothing.
+-- `scalar::sign::is_finite` meets its contract: a float lies between the two infinities just where it is finite.
 use mathlib.Core.Path.{_≡_, refl, sym}
 use mathlib.Core.Bool.{true, false, true≢false}
 use lib.Ieee.{Float, nan, inf, fin, lt, neg, div, ofBits}

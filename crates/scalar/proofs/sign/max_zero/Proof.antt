@@ -1,4 +1,4 @@
--- `scalar::sign::max_zero` meets its contract. Assumes nothing.
+-- `scalar::sign::max_zero` meets its contract.
 use Rattle.scalar.specs.Sign.{maxZeroOf}
 use Rattle.scalar.proofs.sign.max_zero.Statement.{statement}
 use Rattle.scalar.proofs.sign.max_zero.Tie as tie

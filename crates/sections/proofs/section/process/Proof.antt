@@ -1,6 +1,6 @@
 -- `sections::section::process` meets its contract: a walk of its MIR, by hand. All that it knows of `Section::process` is that it meets its contract.
 -- The borrow is opened, the section is copied out and passed, what comes back is stored behind the reference, and the borrow is closed at the new section.
--- Assumes nothing.
+--
 use mathlib.Core.Path.{_≡_, refl}
 use Prim.Native.Nat.{ℕ}
 use mathlib.Core.Bool.{true}

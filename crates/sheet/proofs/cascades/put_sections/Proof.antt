@@ -1,4 +1,4 @@
--- `sheet::cascades::put_sections` meets its contract. The loop's invariant: its counter is at most 4, and the output keeps its length. Assumes nothing.
+-- `sheet::cascades::put_sections` meets its contract. The loop's invariant: its counter is at most 4, and the output keeps its length.
 use Prim.Native.Nat.{_≤_, _-_}
 use mathlib.Core.Path.{_≡_}
 use lib.ListN.{length}

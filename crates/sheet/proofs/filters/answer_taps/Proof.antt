@@ -1,4 +1,4 @@
--- `sheet::filters::answer_taps` meets its contract. The part of the array that is lent has a place for each tap. Assumes nothing.
+-- `sheet::filters::answer_taps` meets its contract. The part of the array that is lent has a place for each tap.
 use mathlib.Core.Path.{sym}
 use lib.Seq.{length-take-le}
 use native.Mathlib.Omega.{arith}

@@ -1,4 +1,4 @@
--- `sheet::filters::put_taps` meets its contract. The part of the array that is lent has `length` taps. Assumes nothing.
+-- `sheet::filters::put_taps` meets its contract. The part of the array that is lent has `length` taps.
 use mathlib.Core.Path.{sym}
 use lib.Seq.{length-take-le}
 use native.Mathlib.Omega.{arith}

@@ -1,4 +1,4 @@
--- `sheet::line::token_count` meets its contract. The loop's invariant: there are no more tokens than bytes passed. Assumes nothing.
+-- `sheet::line::token_count` meets its contract. The loop's invariant: there are no more tokens than bytes passed.
 use Prim.Native.Nat.{_≤_, _-_}
 use lib.ListN.{length}
 use borrow.Author.Needs.{needs}

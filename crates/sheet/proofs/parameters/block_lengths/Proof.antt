@@ -1,4 +1,4 @@
--- `sheet::parameters::block_lengths` meets its contract. The part of the input that is lent has a place for each sample. Assumes nothing.
+-- `sheet::parameters::block_lengths` meets its contract. The part of the input that is lent has a place for each sample.
 use mathlib.Core.Path.{sym}
 use lib.Seq.{length-take-le}
 use native.Mathlib.Omega.{arith}

@@ -1,4 +1,4 @@
--- `sheet::parameters::order_and_floats` meets its contract. The part of the array that is lent has k places. Assumes nothing.
+-- `sheet::parameters::order_and_floats` meets its contract. The part of the array that is lent has k places.
 use mathlib.Core.Path.{sym}
 use lib.Seq.{length-take-le}
 use native.Mathlib.Omega.{arith}

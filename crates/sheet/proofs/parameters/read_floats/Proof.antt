@@ -1,4 +1,4 @@
--- `sheet::parameters::read_floats` meets its contract. The loop's invariant: its counter is at most the number of places, which stays. Assumes nothing.
+-- `sheet::parameters::read_floats` meets its contract. The loop's invariant: its counter is at most the number of places, which stays.
 use Prim.Native.Nat.{_≤_, _-_}
 use mathlib.Core.Path.{_≡_}
 use lib.ListN.{length, length-set}

@@ -1,4 +1,4 @@
--- `sheet::put::put_floats` meets its contract. The loop's invariant: its counter is at most the number of floats, and the output keeps its length. Assumes nothing.
+-- `sheet::put::put_floats` meets its contract. The loop's invariant: its counter is at most the number of floats, and the output keeps its length.
 use Prim.Native.Nat.{_≤_, _-_}
 use mathlib.Core.Path.{_≡_}
 use lib.ListN.{length}

@@ -1,4 +1,4 @@
--- `sheet::running::answer_block` meets its contract. The parts that are lent are as long as `block_lengths` says. Assumes nothing.
+-- `sheet::running::answer_block` meets its contract. The parts that are lent are as long as `block_lengths` says.
 use mathlib.Core.Path.{sym}
 use lib.Seq.{length-take-le}
 use native.Mathlib.Omega.{arith}

@@ -1,4 +1,4 @@
--- `sheet::running::places_before` meets its contract. The loop's invariant: its counter is at most 256. Assumes nothing.
+-- `sheet::running::places_before` meets its contract. The loop's invariant: its counter is at most 256.
 use Prim.Native.Nat.{_≤_, _-_}
 use borrow.Author.Needs.{needs}
 use Rattle.sheet.proofs.running.places_before.Statement.{statement}

@@ -1,4 +1,4 @@
--- `sections::first_order::FirstOrder::identity` meets its contract. Assumes nothing.
+-- `sections::first_order::FirstOrder::identity` meets its contract.
 use lib.Ieee.{ofBits}
 use borrow.Author.Needs.{needs}
 use Rattle.sections.proofs.first_order.FirstOrder.identity.Statement.{statement}

@@ -1,4 +1,4 @@
--- `sections::first_order::FirstOrder::new` meets its contract. Assumes nothing.
+-- `sections::first_order::FirstOrder::new` meets its contract.
 use mathlib.Core.Path.{refl}
 use lib.Ieee.{ofBits}
 use Rattle.sections.proofs.first_order.FirstOrder.new.Statement.{statement}

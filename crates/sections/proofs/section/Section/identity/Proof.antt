@@ -1,4 +1,4 @@
--- `sections::section::Section::identity` meets its contract. Assumes nothing.
+-- `sections::section::Section::identity` meets its contract.
 use lib.Ieee.{ofBits}
 use borrow.Author.Needs.{needs}
 use Rattle.sections.proofs.section.Section.identity.Statement.{statement}

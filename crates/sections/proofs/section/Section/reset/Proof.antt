@@ -1,4 +1,4 @@
--- `sections::section::Section::reset` meets its contract. Assumes nothing.
+-- `sections::section::Section::reset` meets its contract.
 use mathlib.Core.Path.{refl}
 use lib.Ieee.{ofBits}
 use Rattle.sections.proofs.section.Section.reset.Statement.{statement}
