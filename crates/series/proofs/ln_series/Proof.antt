@@ -8,8 +8,6 @@ use Rattle.series.proofs.Turns.{from, odds, from-zero, ln-all, ln-turn}
 use Rattle.series.proofs.ln_series.Statement.{statement}
 use Rattle.series.proofs.ln_series.Tie as tie
 
--- Assumes nothing.
-
 abbrev Inv-loop : tie.InvT-loop
 Inv-loop s p₀ k₀ p k = (i : ℕ) × (k ≡ 2 * i + 1) × (i ≤ 10) × (p ≡ from odds s (10 - i) i)
 
