@@ -1,2 +1,2 @@
--- 01 "Cascade". Cascade and Skewed are over any float format; View reads the code's types at f64 as its records.
+-- The code's cascade and what its calls return at f64, read as the records of cascade_theory and runs.
 pub mod View

@@ -1,4 +1,5 @@
--- Four sections in a row: what they answer one sample after the other, and the same with each section one sample behind the section before it.
+-- Four sections in a row: what they answer one sample after the other, and the same with each section one sample behind the section before it. It is no part of
+-- what is promised.
 use mathlib.Core.Bool.{Bool, true, false, _&&_, cond}
 use mathlib.Core.List.{List}
 use lib.Dec.{leb}

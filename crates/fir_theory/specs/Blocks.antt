@@ -1,4 +1,4 @@
--- What the parts of a long block hand to one another. Not part of what a block promises.
+-- What the parts of a long block hand to one another. It is no part of what is promised.
 use Prim.Native.Nat.{ℕ, zero, suc, _+_, _-_, min}
 use mathlib.Core.Path.{_≡_}
 use mathlib.Core.Bool.{cond, true}

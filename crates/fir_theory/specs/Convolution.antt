@@ -1,4 +1,4 @@
--- Sums of taps and samples at places of a list of samples that stand oldest first.
+-- Sums of taps and samples at places of a list of samples that stand oldest first. They are no part of what is promised.
 use Prim.Native.Nat.{ℕ, zero, suc, _+_, _-_}
 use mathlib.Core.List.{List, [], _∷_, _++_}
 use mathlib.Core.Bool.{Bool, _&&_, cond}

@@ -1,2 +1,2 @@
--- 01 "Section". Section and FirstOrder are over any float format; View reads the code's types at f64 as their records.
+-- The code's sections and first-order parts at f64, read as the records of cascade_theory.
 pub mod View

@@ -1,2 +1,2 @@
--- The proofs that belong to no one function. Laws: a line is what the sections make of three samples more. Scan: counting samples that are not finite.
+-- Counting samples that are not finite.
 pub mod Scan

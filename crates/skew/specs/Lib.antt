@@ -1,2 +1,2 @@
--- Four sections over a block. Skew is over any float format; View reads the code's types at f64 as its records.
+-- The code's four sections and lines at f64, read as the records of cascade_theory.
 pub mod View
