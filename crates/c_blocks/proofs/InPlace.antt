@@ -14,11 +14,11 @@ use borrow.Author.Tests.{eqb-true, eqb-false}
 use Rattle.runs.specs.Refusals.{Accepted, ShortOutput}
 use Rattle.runs.specs.Runs.{Filter, Answer, Block, refusedBlock, cloudedIn, written, answers, after, block}
 use Rattle.runs.proofs.Laws.{Running, run-start, run-part, run-done, written-length, block-is, block-refused, check-after}
-use Rattle.calls.specs.Kinds.{Kind}
-use Rattle.calls.specs.Calls.{Call, unchanged, blockCall, blockInPlaceCall}
-use Rattle.calls.proofs.Laws as Laws
-use Rattle.calls.proofs.Laws.{block-not-single, block-unfit, lend-block, block-accepted}
-use Rattle.calls.proofs.Lists.{ReadBack, good-after}
+use Rattle.c_calls.specs.Kinds.{Kind}
+use Rattle.c_calls.specs.Calls.{Call, unchanged, blockCall, blockInPlaceCall}
+use Rattle.c_calls.proofs.Laws as Laws
+use Rattle.c_calls.proofs.Laws.{block-not-single, block-unfit, lend-block, block-accepted}
+use Rattle.c_calls.proofs.Lists.{ReadBack, good-after}
 use Rattle.c_blocks.specs.Ready.{Ready}
 
 -- ---- a block over its own input, of which the places from i on hold what they held at the start

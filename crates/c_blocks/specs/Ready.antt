@@ -5,7 +5,7 @@ use mathlib.Core.List.{List}
 use Prim.Native.Nat.{ℕ}
 use lib.ListN.{length}
 use lib.Ieee.{Float}
-use Rattle.calls.specs.Kinds.{Kind}
+use Rattle.c_calls.specs.Kinds.{Kind}
 
 -- slices that an accepted block left: they hold a good record, as it is written
 pub record Ready (K : Kind) (numbers : List Float) (counts tally : List ℕ) : Type 0 where

@@ -3,14 +3,14 @@ ghost use mathlib.Core.Path.{_≡_};
 ghost use Prim.Native.Nat.{_≤_};
 ghost use lib.ListN.{length};
 ghost use Rattle.runs.specs.Refusals.{Accepted};
-ghost use Rattle.calls.specs.Kinds.{cascadeKind};
-ghost use Rattle.calls.specs.Calls.{blockCall, blockInPlaceCall};
+ghost use Rattle.c_calls.specs.Kinds.{cascadeKind};
+ghost use Rattle.c_calls.specs.Calls.{blockCall, blockInPlaceCall};
 ghost use Rattle.c_blocks.specs.Ready.{Ready};
 use super::parts::no_samples;
 use super::parts::part_end;
-use layout::fits;
-use layout::read;
-use layout::write;
+use c_layout::fits;
+use c_layout::read;
+use c_layout::write;
 use lists::copy;
 
 // A block of samples.

@@ -3,12 +3,12 @@ ghost use mathlib.Core.Path.{_≡_};
 ghost use Prim.Native.Nat.{_≤_};
 ghost use lib.ListN.{length};
 ghost use Rattle.runs.specs.Refusals.{Accepted};
-ghost use Rattle.calls.specs.Kinds.{firKind};
-ghost use Rattle.calls.specs.Calls.{blockCall, blockInPlaceCall};
+ghost use Rattle.c_calls.specs.Kinds.{firKind};
+ghost use Rattle.c_calls.specs.Calls.{blockCall, blockInPlaceCall};
 ghost use Rattle.c_blocks.specs.Ready.{Ready};
 use super::parts::no_samples;
 use super::parts::part_end;
-use layout::COUNTS;
+use c_layout::COUNTS;
 use lists::copy;
 
 // A block of samples.
@@ -29,7 +29,7 @@ pub fn fir_block(
     if counts.len() != COUNTS {
         return runs::BAD_CALL;
     }
-    let b = blocks::block(
+    let b = fir_block::block(
         taps,
         samples,
         counts[0],

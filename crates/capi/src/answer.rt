@@ -6,8 +6,8 @@ ghost use lib.Dec.{eqb};
 ghost use lib.ListN.{length};
 ghost use Rattle.runs.specs.Runs.{numberOf, isClouded};
 ghost use Rattle.runs.specs.View.{answerView};
-ghost use Rattle.layout.specs.Layout.{flag};
-use layout::flag;
+ghost use Rattle.c_layout.specs.Layout.{flag};
+use c_layout::flag;
 use runs::Answer;
 
 // Whether both have one place.

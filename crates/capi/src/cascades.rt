@@ -1,14 +1,14 @@
 // Steps, blocks and resets of a lent cascade.
 ghost use mathlib.Core.Path.{_≡_};
-ghost use Rattle.calls.specs.Kinds.{cascadeKind};
-ghost use Rattle.calls.specs.Calls.{stepCall, blockCall, blockInPlaceCall, resetCall};
+ghost use Rattle.c_calls.specs.Kinds.{cascadeKind};
+ghost use Rattle.c_calls.specs.Calls.{stepCall, blockCall, blockInPlaceCall, resetCall};
 use super::answer::put;
 use super::answer::single;
 use c_blocks::cascade_block;
 use c_blocks::cascade_block_in_place;
-use layout::fits;
-use layout::read;
-use layout::write;
+use c_layout::fits;
+use c_layout::read;
+use c_layout::write;
 
 // One sample x.
 #[no_mangle]

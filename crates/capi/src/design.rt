@@ -2,19 +2,19 @@
 ghost use mathlib.Core.Path.{_≡_};
 ghost use Rattle.fir_theory.specs.Fir.{fromCoeffs};
 ghost use Rattle.fir_theory.specs.Lent.{capacity};
-ghost use Rattle.designs.specs.LowPass.{butterworthLp, butterworthHp, chebyshev1Lp, chebyshev2Lp};
-ghost use Rattle.designs.specs.BandPass.{butterworthBp};
-ghost use Rattle.calls.specs.Calls.{designCall, madeCall, firCall};
-use designs::design_butterworth_bp;
-use designs::design_butterworth_hp;
-use designs::design_butterworth_lp;
-use designs::design_chebyshev1_lp;
-use designs::design_chebyshev2_lp;
+ghost use Rattle.design_cascade.specs.LowPass.{butterworthLp, butterworthHp, chebyshev1Lp, chebyshev2Lp};
+ghost use Rattle.design_cascade.specs.BandPass.{butterworthBp};
+ghost use Rattle.c_calls.specs.Calls.{designCall, madeCall, firCall};
+use design_cascade::design_butterworth_bp;
+use design_cascade::design_butterworth_hp;
+use design_cascade::design_butterworth_lp;
+use design_cascade::design_chebyshev1_lp;
+use design_cascade::design_chebyshev2_lp;
 use fir::TapRecord;
-use handover::hand_out;
-use handover::hand_out_taps;
-use handover::window_of;
-use windows::design_fir_lp;
+use c_designs::hand_out;
+use c_designs::hand_out_taps;
+use c_designs::window_of;
+use design_fir::design_fir_lp;
 
 // A Butterworth low pass.
 #[no_mangle]

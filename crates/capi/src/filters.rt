@@ -1,12 +1,12 @@
 // Steps, blocks and resets of a lent tap record.
 ghost use mathlib.Core.Path.{_≡_};
-ghost use Rattle.calls.specs.Kinds.{firKind};
-ghost use Rattle.calls.specs.Calls.{stepCall, blockCall, blockInPlaceCall, resetCall};
+ghost use Rattle.c_calls.specs.Kinds.{firKind};
+ghost use Rattle.c_calls.specs.Calls.{stepCall, blockCall, blockInPlaceCall, resetCall};
 use super::answer::put;
 use super::answer::single;
 use c_blocks::fir_block;
 use c_blocks::fir_block_in_place;
-use layout::COUNTS;
+use c_layout::COUNTS;
 
 // One sample x.
 #[no_mangle]
@@ -27,7 +27,7 @@ pub extern "C" fn pulse_fir_step(
     if counts.len() != COUNTS {
         return runs::BAD_CALL;
     }
-    let s = taps::update(taps, samples, counts[0], counts[1], counts[2], x);
+    let s = fir_step::update(taps, samples, counts[0], counts[1], counts[2], x);
     let a = s.answer;
     let refusal = runs::refusal_of(a);
     if refusal != 0 {
@@ -78,7 +78,7 @@ pub extern "C" fn pulse_fir_reset(taps: &[f64], samples: &mut [f64], counts: &mu
     if counts.len() != COUNTS {
         return runs::BAD_CALL;
     }
-    let w = taps::reset(taps, samples, counts[0], counts[1], counts[2]);
+    let w = fir_step::reset(taps, samples, counts[0], counts[1], counts[2]);
     let refusal = w.refusal;
     if refusal != 0 {
         return refusal;

@@ -9,7 +9,7 @@ ghost use lib.ListN.{length};
 ghost use lib.Ieee.{binary64};
 ghost use Rattle.runs.specs.Runs.{step, reset, block};
 ghost use Rattle.sections.specs.View.{sectionView};
-ghost use Rattle.skew.specs.View.{fourView};
+ghost use Rattle.pipeline.specs.View.{fourView};
 ghost use Rattle.cascade_theory.specs.Cascade.{value, moved, clouding, next, checkCascade, blankCascade, cascade};
 ghost use Rattle.cascade_theory.specs.Skewed.{listed, Skewable};
 ghost use Rattle.cascade.specs.View.{cascadeView, updatedView, resetView, blockView};
@@ -19,7 +19,7 @@ use parts::reset_sections;
 use runs::Answer;
 use sections::FirstOrder;
 use sections::Section;
-use skew::Four;
+use pipeline::Four;
 
 pub struct Cascade {
     pub sections: [Section; 4],
@@ -57,7 +57,7 @@ struct Passed {
     cascade: Cascade,
 }
 
-// The four sections by name, as crate skew has them.
+// The four sections by name, as crate pipeline has them.
 fn by_name(sections: [Section; 4]) -> Four
     ensures { λ r. ⌜ listed (fourView r) ≡ map sectionView sections ⌝ }
 {
@@ -249,7 +249,7 @@ impl Cascade {
         if input.len() < 3 {
             return false;
         }
-        !skew::not_all_finite(input)
+        !pipeline::not_all_finite(input)
     }
 
     // The same block with each section one sample behind the section before it.
@@ -258,7 +258,7 @@ impl Cascade {
         ensures { λ r. ⌜ blockView r (now (output .exit)) ≡ block (cascade binary64) (cascadeView self) (now (input .entry)) (now (output .entry)) ⌝ }
     {
         let before = self.sections;
-        let r = skew::run(by_name(before), input, output);
+        let r = pipeline::run(by_name(before), input, output);
         let s0 = r.four.s0;
         let s1 = r.four.s1;
         let s2 = r.four.s2;

@@ -1,4 +1,4 @@
--- When the sections of a block can run skewed (crate skew). It is no part of what is promised.
+-- When the sections of a block can run skewed (crate pipeline). It is no part of what is promised.
 use Prim.Native.Nat.{_≤_}
 use mathlib.Core.Path.{_≡_}
 use mathlib.Core.Bool.{false}

@@ -6,8 +6,8 @@ use mathlib.Core.List.{List, _++_}
 use lib.ListN.{length}
 use lib.Ieee.{Float, binary64}
 use Rattle.ieee.specs.Nearest.{Nearest, fraction}
-use Rattle.decimals.specs.Decimals.{valueAfter, decimal}
-use Rattle.decimals.specs.declared.FloatToken.the-variants.{Number}
+use Rattle.text_decimals.specs.Decimals.{valueAfter, decimal}
+use Rattle.text_decimals.specs.declared.FloatToken.the-variants.{Number}
 
 -- Digits before a point and digits after it, where they are accepted: the double nearest to the number that the digits write over the power of ten that the places
 -- after the point make. A token with `-` is the negative of that.

@@ -10,16 +10,16 @@ use Rattle.cascade.specs.View.{FreshCascade}
 use Rattle.fir_theory.specs.Fir.{TapsRecord, fir, fromCoeffs}
 use Rattle.fir_theory.specs.Lent.{capacity}
 use Rattle.fir.specs.View.{FreshTaps}
-use Rattle.designs.specs.LowPass.{butterworthLp, butterworthHp, chebyshev1Lp, chebyshev2Lp}
-use Rattle.designs.specs.BandPass.{butterworthBp}
-use Rattle.windows.specs.Fir.{firLp}
-use Rattle.windows.specs.declared.WindowType.{WindowType}
+use Rattle.design_cascade.specs.LowPass.{butterworthLp, butterworthHp, chebyshev1Lp, chebyshev2Lp}
+use Rattle.design_cascade.specs.BandPass.{butterworthBp}
+use Rattle.design_fir.specs.Fir.{firLp}
+use Rattle.design_fir.specs.declared.WindowType.{WindowType}
 use Rattle.runs.specs.Refusals.{Accepted}
 use Rattle.fir_theory.specs.Fir.{Made}
-use Rattle.designs.specs.Design.{DesignRecord}
-use Rattle.layout.specs.Layout.{cascadeAt, cascadeFits}
-use Rattle.calls.specs.Kinds.{tapsAt, tapsFit}
-use Rattle.calls.specs.Calls.{designCall, TapsStored, madeCall, firCall}
+use Rattle.design_cascade.specs.Design.{DesignRecord}
+use Rattle.c_layout.specs.Layout.{cascadeAt, cascadeFits}
+use Rattle.c_calls.specs.Kinds.{tapsAt, tapsFit}
+use Rattle.c_calls.specs.Calls.{designCall, TapsStored, madeCall, firCall}
 
 pub record AcceptedIsFresh : Type 0 where
   pub lowPass : (n : ℕ) (cutoff rate : Float) → butterworthLp n cutoff rate .refusal ≡ 0 → FreshCascade (butterworthLp n cutoff rate .cascade)

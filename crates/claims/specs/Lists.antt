@@ -23,9 +23,9 @@ use Rattle.fir.specs.declared.WasReset.{WasReset as FirWasReset}
 use Rattle.fir.specs.declared.Blocked.{Blocked as FirBlocked}
 use Rattle.cascade_theory.specs.Plain.{CascadeForgets}
 use Rattle.fir_theory.specs.Plain.{FirForgets}
-use Rattle.layout.specs.Layout.{cascadeAt}
-use Rattle.calls.specs.Kinds.{tapsAt, cascadeKind, firKind}
-use Rattle.calls.specs.Lists.{CCalls}
+use Rattle.c_layout.specs.Layout.{cascadeAt}
+use Rattle.c_calls.specs.Kinds.{tapsAt, cascadeKind, firKind}
+use Rattle.c_calls.specs.Lists.{CCalls}
 
 -- ---- the code. A premise of each call is the `ensures` of Cascade::update, ::block and ::reset, word for word.
 pub data CascadeCalls : Cascade → List Call → List Outcome → Type 0 where

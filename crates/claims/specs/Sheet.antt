@@ -9,13 +9,13 @@ use Rattle.ieee.specs.Sqrt.{sqrtOf}
 use Rattle.runs.specs.Runs.{Answer, clear, clouded, refused, Block, step, block}
 use Rattle.cascade_theory.specs.Section.{Biquad, sectionOut, sectionNext}
 use Rattle.cascade_theory.specs.FirstOrder.{FirstPart, firstOut, firstNext}
-use Rattle.poles.specs.Butterworth.{lpBiquad, hpBiquad, lpFirst, hpFirst}
+use Rattle.design_poles.specs.Butterworth.{lpBiquad, hpBiquad, lpFirst, hpFirst}
 use Rattle.fir_theory.specs.Fir.{TapsRecord, fir, fromCoeffs}
 use Rattle.fir_theory.specs.Lent.{capacity}
-use Rattle.designs.specs.LowPass.{butterworthLp}
-use Rattle.designs.specs.BandPass.{butterworthBp}
-use Rattle.windows.specs.Fir.{firLp}
-use Rattle.windows.specs.declared.WindowType.{WindowType}
+use Rattle.design_cascade.specs.LowPass.{butterworthLp}
+use Rattle.design_cascade.specs.BandPass.{butterworthBp}
+use Rattle.design_fir.specs.Fir.{firLp}
+use Rattle.design_fir.specs.declared.WindowType.{WindowType}
 
 abbrev pub patterns : List Float → List ℕ
 patterns xs = map (toBits binary64) xs

@@ -1,2 +1,2 @@
--- The tap record of the code, read as the crate taps' definitions have it.
+-- The tap record of the code, read as the crate fir_step' definitions have it.
 pub mod View

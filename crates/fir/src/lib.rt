@@ -116,7 +116,7 @@ impl TapRecord {
         let taps = self.taps;
         let mut samples = self.samples;
         let window = self.window;
-        let s = taps::update(
+        let s = fir_step::update(
             &taps,
             &mut samples,
             self.length,
@@ -144,7 +144,7 @@ impl TapRecord {
         let taps = self.taps;
         let mut samples = self.samples;
         let window = self.window;
-        let s = taps::reset(&taps, &mut samples, self.length, self.held, window as usize);
+        let s = fir_step::reset(&taps, &mut samples, self.length, self.held, window as usize);
         WasReset {
             filter: TapRecord {
                 taps,
@@ -165,7 +165,7 @@ impl TapRecord {
         let taps = self.taps;
         let mut samples = self.samples;
         let window = self.window;
-        let b = blocks::block(
+        let b = fir_block::block(
             &taps,
             &mut samples,
             self.length,

@@ -11,8 +11,8 @@ use crate::compare::meets_refusal;
 use crate::compare::places;
 use crate::compare::word;
 use cascade::Cascade;
-use designs::Design;
-use requests::DesignRequest;
+use design_cascade::Design;
+use design_request::DesignRequest;
 use sections::FirstOrder;
 use sections::Section;
 
@@ -77,11 +77,11 @@ fn what(asked: &[u64]) -> Wanted {
 // The design by its own function.
 fn direct(kind: usize, w: Wanted) -> Design {
     match kind {
-        0 => designs::design_butterworth_lp(w.order, w.a, w.b),
-        1 => designs::design_butterworth_hp(w.order, w.a, w.b),
-        2 => designs::design_butterworth_bp(w.order, w.a, w.b, w.c),
-        3 => designs::design_chebyshev1_lp(w.order, w.a, w.b, w.c),
-        _ => designs::design_chebyshev2_lp(w.order, w.a, w.b, w.c),
+        0 => design_cascade::design_butterworth_lp(w.order, w.a, w.b),
+        1 => design_cascade::design_butterworth_hp(w.order, w.a, w.b),
+        2 => design_cascade::design_butterworth_bp(w.order, w.a, w.b, w.c),
+        3 => design_cascade::design_chebyshev1_lp(w.order, w.a, w.b, w.c),
+        _ => design_cascade::design_chebyshev2_lp(w.order, w.a, w.b, w.c),
     }
 }
 
@@ -121,8 +121,8 @@ fn as_request(kind: usize, w: Wanted) -> DesignRequest {
 
 // Whether the request is checked and designed as stored.
 fn meets_request(stored: &[u64], request: DesignRequest) -> bool {
-    let refusal = requests::check_request(request) as u64;
-    let d = requests::design(request);
+    let refusal = design_request::check_request(request) as u64;
+    let d = design_request::design(request);
     (word(stored, 0) == refusal) & meets_design(stored, d.refusal, d.cascade)
 }
 

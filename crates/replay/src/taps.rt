@@ -12,8 +12,8 @@ use crate::compare::places;
 use crate::compare::word;
 use fir::Made;
 use fir::TapRecord;
-use requests::DesignRequest;
-use windows::WindowType;
+use design_request::DesignRequest;
+use design_fir::WindowType;
 
 // The first `length` taps.
 fn meet_taps(
@@ -74,8 +74,8 @@ fn meets_request(stored: &[u64], w: Wanted) -> bool {
         cutoff: w.cutoff,
         window,
     };
-    let refusal = requests::check_request(request) as u64;
-    let d = requests::design(request);
+    let refusal = design_request::check_request(request) as u64;
+    let d = design_request::design(request);
     (word(stored, 0) == refusal) & meets_made(stored, d.refusal, d.filter)
 }
 
@@ -91,7 +91,7 @@ fn design(asked: &[u64], stored: &[u64], agreed: &mut bool) -> TapRecord {
     let window = w.window;
     *agreed = meets_request(stored, w);
     taken(
-        windows::design_fir_lp(w.taps, w.cutoff, window),
+        design_fir::design_fir_lp(w.taps, w.cutoff, window),
         stored,
         agreed,
     )

@@ -15,7 +15,7 @@ use super::running::answer_reset;
 use super::running::answer_step;
 use super::words::Request;
 use super::words::request_of;
-use protocol::next_token;
+use text_answers::next_token;
 
 fn answer_request(
     request: Request,

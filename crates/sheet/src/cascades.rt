@@ -10,9 +10,9 @@ use super::put::put_next;
 use super::put::put_refused;
 use super::records::Records;
 use cascade::Cascade;
-use designs::Design;
-use protocol::put_bytes;
-use protocol::put_count;
+use design_cascade::Design;
+use text_answers::put_bytes;
+use text_answers::put_count;
 use sections::Section;
 
 pub(crate) enum CascadeKind {
@@ -77,11 +77,11 @@ fn floats_of(kind: CascadeKind) -> usize
 
 fn design(kind: CascadeKind, p: OrderAndFloats) -> Design {
     match kind {
-        CascadeKind::LowPass => designs::design_butterworth_lp(p.order, p.a, p.b),
-        CascadeKind::HighPass => designs::design_butterworth_hp(p.order, p.a, p.b),
-        CascadeKind::BandPass => designs::design_butterworth_bp(p.order, p.a, p.b, p.c),
-        CascadeKind::Chebyshev1 => designs::design_chebyshev1_lp(p.order, p.a, p.b, p.c),
-        CascadeKind::Chebyshev2 => designs::design_chebyshev2_lp(p.order, p.a, p.b, p.c),
+        CascadeKind::LowPass => design_cascade::design_butterworth_lp(p.order, p.a, p.b),
+        CascadeKind::HighPass => design_cascade::design_butterworth_hp(p.order, p.a, p.b),
+        CascadeKind::BandPass => design_cascade::design_butterworth_bp(p.order, p.a, p.b, p.c),
+        CascadeKind::Chebyshev1 => design_cascade::design_chebyshev1_lp(p.order, p.a, p.b, p.c),
+        CascadeKind::Chebyshev2 => design_cascade::design_chebyshev2_lp(p.order, p.a, p.b, p.c),
     }
 }
 

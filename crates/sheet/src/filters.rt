@@ -12,8 +12,8 @@ use super::put::put_refused;
 use super::records::Records;
 use fir::Made;
 use fir::TapRecord;
-use protocol::put_bytes;
-use protocol::put_count;
+use text_answers::put_bytes;
+use text_answers::put_count;
 
 // The first `length` taps.
 fn put_taps(
@@ -55,7 +55,7 @@ pub(crate) fn answer_fir(rest: &[u8], output: &mut [u8], at: usize, records: Rec
         return answer_fault(fault, output, at, records);
     };
     let window = p.window;
-    let made = windows::design_fir_lp(p.taps, p.cutoff, window);
+    let made = design_fir::design_fir_lp(p.taps, p.cutoff, window);
     answer_made(made, output, at, records)
 }
 

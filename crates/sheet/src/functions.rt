@@ -2,7 +2,7 @@
 use super::fault::Fault;
 use super::parameters::only_float;
 use super::put::put_fault;
-use protocol::put_float;
+use text_answers::put_float;
 
 pub(crate) enum Function {
     Sqrt,

@@ -1,8 +1,8 @@
 // The pieces of an answer line, put into the output from a place on; each function returns the place after its piece.
 use super::fault::Fault;
-use protocol::put_bytes;
-use protocol::put_count;
-use protocol::put_float;
+use text_answers::put_bytes;
+use text_answers::put_count;
+use text_answers::put_float;
 use runs::Answer;
 
 pub(crate) fn end_line(output: &mut [u8], at: usize) -> usize {

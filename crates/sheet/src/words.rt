@@ -2,8 +2,8 @@
 use super::cascades::CascadeKind;
 use super::functions::Function;
 use super::records::RecordKind;
-use protocol::same_bytes;
-use windows::WindowType;
+use text_answers::same_bytes;
+use design_fir::WindowType;
 
 // The designs are Cascade and Fir; Taps is ready-made taps.
 pub(crate) enum Request {

@@ -10,7 +10,7 @@ use Rattle.runs.specs.Runs.{Filter, answers, written}
 use Rattle.cascade_theory.specs.Cascade.{cascade}
 use Rattle.fir_theory.specs.Fir.{fir, fromCoeffs}
 use Rattle.fir_theory.specs.Lent.{capacity}
-use Rattle.designs.specs.LowPass.{butterworthLp}
+use Rattle.design_cascade.specs.LowPass.{butterworthLp}
 
 pub record Stepped : Type 0 where
   pub refusal : ℕ

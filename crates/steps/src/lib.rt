@@ -70,7 +70,7 @@ pub extern "C" fn steps_cascade(
 ) -> u8
     ensures { λ r. ⌜ record { refusal = r; output = now (output .exit) } ≡ cascadeSteps order cutoff «sample_rate» (now (input .entry)) (now (output .entry)) ⌝ }
 {
-    let d = designs::design_butterworth_lp(order, cutoff, sample_rate);
+    let d = design_cascade::design_butterworth_lp(order, cutoff, sample_rate);
     let refusal = d.refusal;
     if refusal != 0 {
         return refusal;

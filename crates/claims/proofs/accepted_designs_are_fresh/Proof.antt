@@ -3,8 +3,8 @@ use Rattle.fir_theory.specs.Lent.{capacity}
 use lib.Ieee.{binary64}
 use Rattle.cascade_theory.proofs.Forgetting as cascade
 use Rattle.fir_theory.proofs.Fresh as fir
-use Rattle.designs.proofs.Fresh.{butterworth-lp-fresh, butterworth-hp-fresh, chebyshev1-fresh, chebyshev2-fresh, bandpass-fresh}
-use Rattle.windows.proofs.Fresh.{fir-fresh}
+use Rattle.design_cascade.proofs.Fresh.{butterworth-lp-fresh, butterworth-hp-fresh, chebyshev1-fresh, chebyshev2-fresh, bandpass-fresh}
+use Rattle.design_fir.proofs.Fresh.{fir-fresh}
 use Rattle.claims.proofs.accepted_designs_are_fresh.Statement.{statement}
 use Rattle.claims.proofs.accepted_designs_are_fresh.Tie as tie
 

@@ -4,10 +4,10 @@ use Rattle.runs.proofs.Forgetting.{forgets-shown}
 use Rattle.cascade_theory.specs.Cascade.{cascade}
 use Rattle.cascade_theory.specs.Plain.{plainCascade, coefficientsOf}
 use Rattle.cascade_theory.proofs.Forgetting.{forgets}
-use Rattle.layout.specs.Layout.{cascadeAt}
-use Rattle.calls.specs.Kinds.{cascadeKind}
-use Rattle.calls.proofs.Lists.{c-calls-run}
-use Rattle.calls.proofs.Back.{cascade-read-back}
+use Rattle.c_layout.specs.Layout.{cascadeAt}
+use Rattle.c_calls.specs.Kinds.{cascadeKind}
+use Rattle.c_calls.proofs.Lists.{c-calls-run}
+use Rattle.c_calls.proofs.Back.{cascade-read-back}
 use Rattle.claims.proofs.c_cascade_calls_forget.Statement.{statement}
 use Rattle.claims.proofs.c_cascade_calls_forget.Tie as tie
 

@@ -11,10 +11,10 @@ use Rattle.fir_theory.specs.Lent.{capacity}
 use Rattle.fir_theory.proofs.Laws.{fits-lengths}
 use Rattle.fir_theory.specs.Plain.{plainFir, tapsOf, FirForgets}
 use Rattle.fir_theory.proofs.Forgetting.{forgets}
-use Rattle.calls.specs.Kinds.{tapsAt, tapsFit, firKind}
-use Rattle.calls.specs.Lists.{CCalls}
-use Rattle.calls.proofs.Lists.{c-calls-run, c-calls-none}
-use Rattle.calls.proofs.Back.{fir-read-back, taps-fit}
+use Rattle.c_calls.specs.Kinds.{tapsAt, tapsFit, firKind}
+use Rattle.c_calls.specs.Lists.{CCalls}
+use Rattle.c_calls.proofs.Lists.{c-calls-run, c-calls-none}
+use Rattle.c_calls.proofs.Back.{fir-read-back, taps-fit}
 use Rattle.claims.proofs.c_fir_calls_forget.Statement.{statement}
 use Rattle.claims.proofs.c_fir_calls_forget.Tie as tie
 

@@ -19,24 +19,24 @@ use Rattle.fir_theory.proofs.Laws.{sizes, lengths-fit}
 use Rattle.fir_theory.proofs.Fresh.{ready-made-fresh}
 use Rattle.fir.specs.View.{FreshTaps}
 use Rattle.scalar.specs.Operators.{_⊖_, _⊗_}
-use Rattle.checks.specs.Checks.{validateParams, validateChebyshev, validateBand, validateFir}
-use Rattle.checks.specs.Lists.{upTo}
-use Rattle.windows.specs.Fir.{codeOf, firTaps, firLp}
-use Rattle.windows.specs.declared.WindowType.{WindowType}
-use Rattle.windows.proofs.Fresh.{fir-fresh}
-use Rattle.designs.specs.Design.{DesignRecord, padded, unlessRefused, accepted, refusedDesign}
-use Rattle.designs.specs.Butterworth.{warped}
-use Rattle.designs.specs.Chebyshev.{cheb1Prototype, cheb2Prototype}
-use Rattle.designs.specs.Prototype.{pairOf, prototypeCascade}
-use Rattle.designs.specs.declared.prototype.Prototype.{Prototype}
-use Rattle.designs.specs.declared.prototype.Prototype.the-variants.{ButterworthLow, ButterworthHigh}
-use Rattle.designs.specs.LowPass.{butterworthLp, butterworthHp, chebyshev1Lp, chebyshev2Lp}
-use Rattle.designs.specs.BandPass.{bpSections, bpCascade, butterworthBp}
-use Rattle.designs.proofs.Fresh.{butterworth-lp-fresh, butterworth-hp-fresh, chebyshev1-fresh, chebyshev2-fresh, bandpass-fresh}
-use Rattle.layout.specs.Layout.{cascadeAt, cascadePlaces, cascadeFits, cascadeNumbers, cascadeCounts}
-use Rattle.calls.specs.Kinds.{tapsAt, tapsCounts, tapsFit}
-use Rattle.calls.specs.Calls.{Stored, designCall, notStored, TapsStored, tapsPlaces, tapsUnchanged, madeCall, firCall, windowOf}
-use Rattle.calls.proofs.Back.{cascade-back, taps-back}
+use Rattle.design_checks.specs.Checks.{validateParams, validateChebyshev, validateBand, validateFir}
+use Rattle.design_checks.specs.Lists.{upTo}
+use Rattle.design_fir.specs.Fir.{codeOf, firTaps, firLp}
+use Rattle.design_fir.specs.declared.WindowType.{WindowType}
+use Rattle.design_fir.proofs.Fresh.{fir-fresh}
+use Rattle.design_cascade.specs.Design.{DesignRecord, padded, unlessRefused, accepted, refusedDesign}
+use Rattle.design_cascade.specs.Butterworth.{warped}
+use Rattle.design_cascade.specs.Chebyshev.{cheb1Prototype, cheb2Prototype}
+use Rattle.design_cascade.specs.Prototype.{pairOf, prototypeCascade}
+use Rattle.design_cascade.specs.declared.prototype.Prototype.{Prototype}
+use Rattle.design_cascade.specs.declared.prototype.Prototype.the-variants.{ButterworthLow, ButterworthHigh}
+use Rattle.design_cascade.specs.LowPass.{butterworthLp, butterworthHp, chebyshev1Lp, chebyshev2Lp}
+use Rattle.design_cascade.specs.BandPass.{bpSections, bpCascade, butterworthBp}
+use Rattle.design_cascade.proofs.Fresh.{butterworth-lp-fresh, butterworth-hp-fresh, chebyshev1-fresh, chebyshev2-fresh, bandpass-fresh}
+use Rattle.c_layout.specs.Layout.{cascadeAt, cascadePlaces, cascadeFits, cascadeNumbers, cascadeCounts}
+use Rattle.c_calls.specs.Kinds.{tapsAt, tapsCounts, tapsFit}
+use Rattle.c_calls.specs.Calls.{Stored, designCall, notStored, TapsStored, tapsPlaces, tapsUnchanged, madeCall, firCall, windowOf}
+use Rattle.c_calls.proofs.Back.{cascade-back, taps-back}
 use Rattle.claims.specs.Fresh.{CascadeMade, TapsMade}
 use Rattle.claims.proofs.c_made_filters_are_fresh.Statement.{statement}
 use Rattle.claims.proofs.c_made_filters_are_fresh.Tie as tie

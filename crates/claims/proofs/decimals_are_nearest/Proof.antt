@@ -1,5 +1,5 @@
 -- `claims::decimals_are_nearest` meets its contract.
-use Rattle.decimals.proofs.Decimals.{decimal-nearest}
+use Rattle.text_decimals.proofs.Decimals.{decimal-nearest}
 use Rattle.claims.proofs.decimals_are_nearest.Statement.{statement}
 use Rattle.claims.proofs.decimals_are_nearest.Tie as tie
 

@@ -1,5 +1,5 @@
 -- `claims::designs_are_refused_by_their_checks` meets its contract.
-use Rattle.requests.proofs.Laws.{refused-by-check}
+use Rattle.design_request.proofs.Laws.{refused-by-check}
 use Rattle.claims.proofs.designs_are_refused_by_their_checks.Statement.{statement}
 use Rattle.claims.proofs.designs_are_refused_by_their_checks.Tie as tie
 

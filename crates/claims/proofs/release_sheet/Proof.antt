@@ -2,14 +2,14 @@
 use mathlib.Core.Path.{refl}
 use lib.Ieee.{add, sub, mul, div, neg, lt, le, isNan, ofInt, ofBits, toBits}
 use Rattle.runs.specs.Refusals.{orderRefused}
-use Rattle.checks.specs.Checks.{notPositive, cutoffRefused, bandRefused, validateParams, validateBand, validateFir}
+use Rattle.design_checks.specs.Checks.{notPositive, cutoffRefused, bandRefused, validateParams, validateBand, validateFir}
 use Rattle.runs.specs.Runs.{notAllFinite, step, block}
 use Rattle.ieee.specs.Sqrt.{sqrtOf}
 use Rattle.fir_theory.specs.Fir.{pushed, next, heldOf, clouding, sum, value, mark, checkTaps, holding, fromCoeffs}
-use Rattle.designs.specs.LowPass.{butterworthLp}
-use Rattle.designs.specs.BandPass.{butterworthBp}
-use Rattle.windows.specs.Fir.{firLp}
-use Rattle.poles.specs.Butterworth.{denominatorOf, lpBiquad, hpBiquad, lpFirst, hpFirst}
+use Rattle.design_cascade.specs.LowPass.{butterworthLp}
+use Rattle.design_cascade.specs.BandPass.{butterworthBp}
+use Rattle.design_fir.specs.Fir.{firLp}
+use Rattle.design_poles.specs.Butterworth.{denominatorOf, lpBiquad, hpBiquad, lpFirst, hpFirst}
 use Rattle.claims.proofs.release_sheet.Statement.{statement}
 use Rattle.claims.proofs.release_sheet.Tie as tie
 

@@ -2,8 +2,8 @@
 use mathlib.Core.Path.{ap, _∙_}
 use lib.Ieee.{binary64}
 use Rattle.cascade_theory.specs.Cascade.{cascade}
-use Rattle.designs.specs.Design.{DesignRecord}
-use Rattle.designs.specs.View.{designView}
+use Rattle.design_cascade.specs.Design.{DesignRecord}
+use Rattle.design_cascade.specs.View.{designView}
 use Rattle.steps.specs.Steps.{stepsOf, cascadeSteps}
 use Rattle.steps.proofs.Laws.{steps-refused, steps-short, steps-ran}
 use borrow.Author.Needs.{needs}

@@ -4,12 +4,12 @@ use mathlib.Core.Bool.{true}
 use borrow.Author.Tests.{not-true, not-false}
 use Rattle.runs.specs.Lent.{lentBlock}
 use Rattle.cascade.specs.View.{blockView}
-use Rattle.layout.specs.Layout.{cascadeFits}
-use Rattle.calls.specs.Kinds.{cascadeKind}
-use Rattle.calls.specs.Calls.{fitting, recordOf}
-use Rattle.layout.proofs.Places.{set-one}
-use Rattle.layout.proofs.Laws.{fits-places}
-use Rattle.calls.proofs.Laws.{read-is, numbers-are, counts-are, block-not-single, block-unfit, lend-block, block-refused, block-accepted}
+use Rattle.c_layout.specs.Layout.{cascadeFits}
+use Rattle.c_calls.specs.Kinds.{cascadeKind}
+use Rattle.c_calls.specs.Calls.{fitting, recordOf}
+use Rattle.c_layout.proofs.Places.{set-one}
+use Rattle.c_layout.proofs.Laws.{fits-places}
+use Rattle.c_calls.proofs.Laws.{read-is, numbers-are, counts-are, block-not-single, block-unfit, lend-block, block-refused, block-accepted}
 use borrow.Author.Needs.{needs}
 use Rattle.c_blocks.proofs.cascades.cascade_block.Statement.{statement}
 use Rattle.c_blocks.proofs.cascades.cascade_block.Tie as tie

@@ -3,9 +3,9 @@ use mathlib.Core.Path.{_≡_, ap, _∙_}
 use mathlib.Core.List.{List}
 use lib.Ieee.{Float}
 use borrow.Author.Needs.{needs}
-use Rattle.calls.specs.Kinds.{cascadeKind}
-use Rattle.calls.specs.Calls.{blockInPlaceCall}
-use Rattle.calls.proofs.Back.{cascade-read-back}
+use Rattle.c_calls.specs.Kinds.{cascadeKind}
+use Rattle.c_calls.specs.Calls.{blockInPlaceCall}
+use Rattle.c_calls.proofs.Back.{cascade-read-back}
 use Rattle.c_blocks.specs.Ready.{Ready}
 use Rattle.c_blocks.proofs.InPlace.{Follows, empty-refused, empty-accepted}
 use Rattle.c_blocks.proofs.cascades.cascade_block_in_place.Statement.{statement}

@@ -5,9 +5,9 @@ use Prim.Native.Nat.{_+_, _-_, _≤_}
 use native.Mathlib.Omega.{arith}
 use lib.ListN.{length, getD, take, drop, length-take, length-drop}
 use borrow.Author.Needs.{needs}
-use Rattle.layout.proofs.Places.{set-one}
-use Rattle.calls.specs.Kinds.{cascadeKind}
-use Rattle.calls.proofs.Back.{cascade-read-back}
+use Rattle.c_layout.proofs.Places.{set-one}
+use Rattle.c_calls.specs.Kinds.{cascadeKind}
+use Rattle.c_calls.proofs.Back.{cascade-read-back}
 use Rattle.c_blocks.proofs.InPlace.{Parts, parts-start, parts-turn, parts-done}
 use Rattle.c_blocks.proofs.cascades.cascade_parts.Statement.{statement}
 use Rattle.c_blocks.proofs.cascades.cascade_parts.Tie as tie

@@ -1,7 +1,7 @@
 -- `c_blocks::filters::fir_block` meets its contract.
-use Rattle.calls.specs.Kinds.{firKind}
-use Rattle.layout.proofs.Places.{set-one}
-use Rattle.calls.proofs.Laws.{block-not-single, block-unfit, uncounted, fir-block-refused, fir-block-accepted}
+use Rattle.c_calls.specs.Kinds.{firKind}
+use Rattle.c_layout.proofs.Places.{set-one}
+use Rattle.c_calls.proofs.Laws.{block-not-single, block-unfit, uncounted, fir-block-refused, fir-block-accepted}
 use borrow.Author.Needs.{needs}
 use Rattle.c_blocks.proofs.filters.fir_block.Statement.{statement}
 use Rattle.c_blocks.proofs.filters.fir_block.Tie as tie

@@ -4,8 +4,8 @@ use mathlib.Core.List.{List}
 use lib.ListN.{length, take}
 use lib.Ieee.{Float}
 use borrow.Author.Needs.{needs}
-use Rattle.calls.specs.Kinds.{firKind}
-use Rattle.calls.specs.Calls.{blockCall, blockInPlaceCall}
+use Rattle.c_calls.specs.Kinds.{firKind}
+use Rattle.c_calls.specs.Calls.{blockCall, blockInPlaceCall}
 use Rattle.c_blocks.proofs.InPlace.{copy-lent}
 use Rattle.c_blocks.proofs.filters.fir_part.Statement.{statement}
 use Rattle.c_blocks.proofs.filters.fir_part.Tie as tie

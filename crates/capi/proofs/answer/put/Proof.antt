@@ -1,6 +1,6 @@
 -- `capi::answer::put` meets its contract.
-use Rattle.layout.specs.Layout.{flag}
-use Rattle.layout.proofs.Places.{set-one}
+use Rattle.c_layout.specs.Layout.{flag}
+use Rattle.c_layout.proofs.Places.{set-one}
 use borrow.Author.Needs.{needs}
 use Rattle.capi.proofs.answer.put.Statement.{statement}
 use Rattle.capi.proofs.answer.put.Tie as tie

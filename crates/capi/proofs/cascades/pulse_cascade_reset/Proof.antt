@@ -4,11 +4,11 @@ use mathlib.Core.Bool.{true}
 use borrow.Author.Tests.{not-true, not-false}
 use Rattle.runs.specs.Lent.{lentReset}
 use Rattle.cascade.specs.View.{resetView}
-use Rattle.layout.specs.Layout.{cascadeFits}
-use Rattle.calls.specs.Kinds.{cascadeKind}
-use Rattle.calls.specs.Calls.{fitting, recordOf}
-use Rattle.layout.proofs.Laws.{fits-places}
-use Rattle.calls.proofs.Laws.{read-is, numbers-are, counts-are, reset-unfit, lend-reset, reset-refused, reset-accepted}
+use Rattle.c_layout.specs.Layout.{cascadeFits}
+use Rattle.c_calls.specs.Kinds.{cascadeKind}
+use Rattle.c_calls.specs.Calls.{fitting, recordOf}
+use Rattle.c_layout.proofs.Laws.{fits-places}
+use Rattle.c_calls.proofs.Laws.{read-is, numbers-are, counts-are, reset-unfit, lend-reset, reset-refused, reset-accepted}
 use borrow.Author.Needs.{needs}
 use Rattle.capi.proofs.cascades.pulse_cascade_reset.Statement.{statement}
 use Rattle.capi.proofs.cascades.pulse_cascade_reset.Tie as tie

@@ -6,11 +6,11 @@ use lib.ListN.{length}
 use borrow.Author.Tests.{not-true, not-false}
 use Rattle.runs.specs.Lent.{lentStep}
 use Rattle.cascade.specs.View.{updatedView}
-use Rattle.layout.specs.Layout.{cascadeFits}
-use Rattle.calls.specs.Kinds.{cascadeKind}
-use Rattle.calls.specs.Calls.{fitting, recordOf}
-use Rattle.layout.proofs.Laws.{fits-places}
-use Rattle.calls.proofs.Laws.{read-is, numbers-are, counts-are, single-lengths, step-not-single, step-unfit, lend-step, step-refused, step-accepted}
+use Rattle.c_layout.specs.Layout.{cascadeFits}
+use Rattle.c_calls.specs.Kinds.{cascadeKind}
+use Rattle.c_calls.specs.Calls.{fitting, recordOf}
+use Rattle.c_layout.proofs.Laws.{fits-places}
+use Rattle.c_calls.proofs.Laws.{read-is, numbers-are, counts-are, single-lengths, step-not-single, step-unfit, lend-step, step-refused, step-accepted}
 use borrow.Author.Needs.{needs}
 use Rattle.capi.proofs.cascades.pulse_cascade_step.Statement.{statement}
 use Rattle.capi.proofs.cascades.pulse_cascade_step.Tie as tie

@@ -1,6 +1,6 @@
 -- `capi::filters::pulse_fir_reset` meets its contract.
-use Rattle.calls.specs.Kinds.{firKind}
-use Rattle.calls.proofs.Laws.{reset-unfit, uncounted, fir-reset-refused, fir-reset-accepted}
+use Rattle.c_calls.specs.Kinds.{firKind}
+use Rattle.c_calls.proofs.Laws.{reset-unfit, uncounted, fir-reset-refused, fir-reset-accepted}
 use borrow.Author.Needs.{needs}
 use Rattle.capi.proofs.filters.pulse_fir_reset.Statement.{statement}
 use Rattle.capi.proofs.filters.pulse_fir_reset.Tie as tie

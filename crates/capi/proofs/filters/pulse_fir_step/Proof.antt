@@ -4,8 +4,8 @@ use mathlib.Core.Bool.{true, _&&_}
 use lib.Dec.{eqb}
 use lib.ListN.{length}
 use borrow.Author.Tests.{not-true, not-false}
-use Rattle.calls.specs.Kinds.{firKind}
-use Rattle.calls.proofs.Laws.{single-lengths, step-not-single, step-unfit, uncounted, fir-step-refused, fir-step-accepted}
+use Rattle.c_calls.specs.Kinds.{firKind}
+use Rattle.c_calls.proofs.Laws.{single-lengths, step-not-single, step-unfit, uncounted, fir-step-refused, fir-step-accepted}
 use borrow.Author.Needs.{needs}
 use Rattle.capi.proofs.filters.pulse_fir_step.Statement.{statement}
 use Rattle.capi.proofs.filters.pulse_fir_step.Tie as tie

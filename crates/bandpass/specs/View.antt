@@ -1,7 +1,0 @@
--- The code's type, read field by field.
-use Rattle.sections.specs.View.{sectionView}
-use Rattle.bandpass.specs.BandPass.{BiquadPair}
-use Rattle.bandpass.specs.declared.SectionPair.{SectionPair}
-
-abbrev pub pairView : SectionPair → BiquadPair
-pairView p = record { bq1 = sectionView (p .bq1); bq2 = sectionView (p .bq2) }

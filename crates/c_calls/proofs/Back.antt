@@ -1,0 +1,86 @@
+-- Both kinds of record are read back from slices as they were written into them.
+use mathlib.Core.Path.{_≡_, refl, sym, ap, _∙_}
+use mathlib.Core.Bool.{Bool, true, false, _&&_}
+use mathlib.Core.List.{List, [], _∷_, map}
+use Prim.Native.Nat.{ℕ, zero, suc}
+use native.Mathlib.Omega.{arith}
+use lib.Dec.{eqb}
+use lib.ListN.{length, length-map, length-replicate}
+use lib.Ieee.{Float, Format, binary64}
+use borrow.Author.Tests.{eq-eqb}
+use Rattle.runs.specs.Runs.{plusZero}
+use Rattle.cascade_theory.specs.Section.{Biquad, clearedBiquad, sectionOut}
+use Rattle.cascade_theory.specs.Parts.{sectionsNext}
+use Rattle.cascade_theory.specs.Cascade.{CascadeRecord, clearedCascade, entered, moved, next}
+use Rattle.cascade_theory.proofs.Laws.{check-next}
+use Rattle.fir_theory.specs.Fir as Fir
+use Rattle.fir_theory.specs.Fir.{TapsRecord, clearedTaps}
+use Rattle.fir_theory.specs.Lent.{capacity, fits}
+use Rattle.fir_theory.proofs.Laws as Taps
+use Rattle.fir_theory.proofs.Laws.{fits-next, fits-lengths, lengths-fit}
+use Rattle.c_layout.specs.Layout.{cascadeAt, cascadeNumbers, sectionsNumbers, cascadeCounts, cascadePlaces, cascadeFits}
+use Rattle.c_layout.proofs.Places.{both}
+use Rattle.c_calls.specs.Kinds.{tapsAt, tapsCounts, tapsFit, cascadeKind, firKind}
+use Rattle.c_calls.proofs.Lists.{ReadBack}
+
+-- ---- a cascade: it has four sections
+
+next-length : (f : Format) (n : ℕ) (ss : List Biquad) (x : Float) → length (sectionsNext f n ss x) ≡ length ss
+next-length f zero ss x = refl
+next-length f (suc n) [] x = refl
+next-length f (suc n) (s ∷ ss) x = ap suc (next-length f n ss (sectionOut f s x))
+
+pub cascade-back : (c : CascadeRecord) → length (c .sections) ≡ 4 → (cascadeAt (cascadeNumbers c) (cascadeCounts c) ≡ c) × (cascadeFits (cascadeNumbers c) (cascadeCounts c) ≡ true)
+unfolding cascadeAt cascadeNumbers sectionsNumbers cascadeCounts cascadePlaces cascadeFits
+cascade-back c h = go (c .sections) (c .hasFirst) (c .clouded) h
+  where
+    with : List Biquad → Bool → Bool → CascadeRecord
+    with ss a b = record { sections = ss; count = c .count; first = c .first; hasFirst = a; clouded = b }
+
+    go : (ss : List Biquad) (a b : Bool) → length ss ≡ 4
+        → (cascadeAt (cascadeNumbers (with ss a b)) (cascadeCounts (with ss a b)) ≡ with ss a b) × (cascadeFits (cascadeNumbers (with ss a b)) (cascadeCounts (with ss a b)) ≡ true)
+    go [] a b e = absurd (omega (arith, e))
+    go (s₀ ∷ []) a b e = absurd (omega (arith, e))
+    go (s₀ ∷ s₁ ∷ []) a b e = absurd (omega (arith, e))
+    go (s₀ ∷ s₁ ∷ s₂ ∷ []) a b e = absurd (omega (arith, e))
+    go (s₀ ∷ s₁ ∷ s₂ ∷ s₃ ∷ []) true true e = (refl, refl)
+    go (s₀ ∷ s₁ ∷ s₂ ∷ s₃ ∷ []) true false e = (refl, refl)
+    go (s₀ ∷ s₁ ∷ s₂ ∷ s₃ ∷ []) false true e = (refl, refl)
+    go (s₀ ∷ s₁ ∷ s₂ ∷ s₃ ∷ []) false false e = (refl, refl)
+    go (s₀ ∷ s₁ ∷ s₂ ∷ s₃ ∷ s₄ ∷ ss) a b e = absurd (omega (arith, e))
+
+pub cascade-read-back : ReadBack cascadeKind
+unfolding cascadeAt next moved clearedCascade
+cascade-read-back = record {
+  Good = λ c. length (c .sections) ≡ 4;
+  good-read = λ numbers counts fit. refl;
+  good-next = λ c x h g. next-length binary64 (c .count) (c .sections) (entered binary64 c x) ∙ g;
+  good-cleared = λ c g. length-map (c .sections) clearedBiquad ∙ g;
+  keeps = check-next binary64;
+  back = λ c g. cascade-back c g .0;
+  fit-back = λ c g. cascade-back c g .1;
+  numbered = ((λ e. omega (arith, e)), (λ e. omega (arith, e)));
+}
+
+-- ---- a tap record with these taps: its slices have as many places as the capacity
+
+pub taps-fit : (taps samples : List Float) (counts : List ℕ) → tapsFit taps samples counts ≡ true → fits capacity (tapsAt taps samples counts) ≡ true
+unfolding tapsFit
+taps-fit taps samples counts h = both (eqb (length counts) 3) _ h .1
+
+pub taps-back : (taps : List Float) (r : TapsRecord) → r .taps ≡ taps → fits capacity r ≡ true → (tapsAt taps (r .samples) (tapsCounts r) ≡ r) × (tapsFit taps (r .samples) (tapsCounts r) ≡ true)
+unfolding tapsAt tapsCounts tapsFit
+taps-back taps r e h = (rw (← e), rw (← e) h)
+
+pub fir-read-back : (taps : List Float) → ReadBack (firKind taps)
+unfolding tapsAt Fir.next clearedTaps
+fir-read-back taps = record {
+  Good = λ r. (r .taps ≡ taps) × (fits capacity r ≡ true);
+  good-read = λ samples counts fit. (refl, taps-fit taps samples counts fit);
+  good-next = λ r x h g. (g .0, fits-next capacity r x (g .1) h);
+  good-cleared = λ r g. (g .0, lengths-fit capacity (clearedTaps capacity r) (fits-lengths capacity r (g .1) .0) (length-replicate capacity plusZero));
+  keeps = Taps.check-next capacity;
+  back = λ r g. taps-back taps r (g .0) (g .1) .0;
+  fit-back = λ r g. taps-back taps r (g .0) (g .1) .1;
+  numbered = ((λ e. omega (arith, e)), (λ e. omega (arith, e)));
+}

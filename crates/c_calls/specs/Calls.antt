@@ -1,0 +1,113 @@
+-- What each call returns, and what every slice holds after it. A refused call leaves every slice.
+use Prim.Native.Nat.{ℕ}
+use mathlib.Core.Bool.{Bool, _&&_, cond}
+use mathlib.Core.List.{List, [], _∷_}
+use lib.Dec.{eqb, leb}
+use lib.ListN.{length}
+use lib.Ieee.{Float}
+use Rattle.runs.specs.Refusals.{Accepted, BadCall}
+use Rattle.runs.specs.Runs.{numberOf, isClouded, refusalOf, Step, Block}
+use Rattle.runs.specs.Lent.{lentStep, lentReset, lentBlock}
+use Rattle.fir_theory.specs.Fir.{Made, Blackman}
+use Rattle.fir_theory.specs.Lent.{capacity}
+use Rattle.design_fir.specs.Fir.{firLp}
+use Rattle.design_fir.specs.declared.WindowType.{WindowType}
+use Rattle.design_cascade.specs.Design.{DesignRecord}
+use Rattle.c_layout.specs.Layout.{flag, cascadePlaces, cascadeNumbers, cascadeCounts}
+use Rattle.c_calls.specs.Kinds.{Kind, tapsCounts}
+
+-- ---- a step and a block: the numbers and counts of the record, the places of the answers, and the place of the count of Clouded answers
+pub record Call : Type 0 where
+  pub refusal : ℕ
+  pub numbers : List Float
+  pub counts : List ℕ
+  pub answers : List Float
+  pub clouded : List ℕ
+
+module _ (K : Kind) (numbers : List Float) (counts : List ℕ) where
+  -- the record, and the test of the slices that goes before its own check
+  abbrev pub recordOf : K .filter .State
+  recordOf = K .read numbers counts
+
+  abbrev pub fitting : K .filter .State → Bool
+  fitting s = K .fit numbers counts
+
+  module _ (answers : List Float) (tally : List ℕ) where
+    -- a refused call
+    abbrev pub unchanged : ℕ → Call
+    unchanged n = record { refusal = n; numbers = numbers; counts = counts; answers = answers; clouded = tally }
+
+    -- an accepted one, by the record after it, its answers and how many were Clouded
+    abbrev pub accepted : K .filter .State → List Float → ℕ → Call
+    accepted s ys n = record { refusal = Accepted; numbers = K .numbers s; counts = K .counts s; answers = ys; clouded = n ∷ [] }
+
+    abbrev pub stepped : Step (K .filter .State) → Call
+    stepped s = cond (eqb (refusalOf (s .answer)) Accepted) (accepted (s .state) (numberOf (s .answer) ∷ []) (flag (isClouded (s .answer)))) (unchanged (refusalOf (s .answer)))
+
+    abbrev pub ran : Block (K .filter .State) → Call
+    ran b = cond (eqb (b .refusal) Accepted) (accepted (b .state) (b .output) (b .clouded)) (unchanged (b .refusal))
+
+  -- one sample x: its answer goes to one place, and so does how many answers were Clouded, 0 or 1
+  unfoldable pub stepCall : Float → List Float → List ℕ → Call
+  stepCall x answer tally =
+      cond (eqb (length answer) 1 && eqb (length tally) 1) (stepped answer tally (lentStep (K .filter) fitting recordOf x)) (unchanged answer tally BadCall)
+
+  -- a block: its answers go to the first places of the output, and how many were Clouded to one place
+  unfoldable pub blockCall : List Float → List Float → List ℕ → Call
+  blockCall input output tally =
+      cond (eqb (length tally) 1) (ran output tally (lentBlock (K .filter) fitting recordOf input output)) (unchanged output tally BadCall)
+
+  -- a block in place: the block whose input and output both hold what the buffer holds before the call
+  unfoldable pub blockInPlaceCall : List Float → List ℕ → Call
+  blockInPlaceCall buffer tally = blockCall buffer buffer tally
+
+-- ---- a reset
+pub record Stored : Type 0 where
+  pub refusal : ℕ
+  pub numbers : List Float
+  pub counts : List ℕ
+
+-- slices as they were
+abbrev pub notStored : List Float → List ℕ → ℕ → Stored
+notStored numbers counts n = record { refusal = n; numbers = numbers; counts = counts }
+
+unfoldable pub resetCall : Kind → List Float → List ℕ → Stored
+resetCall K numbers counts =
+    let s = lentReset (K .filter) (fitting K numbers counts) (recordOf K numbers counts) in
+    cond (eqb (s .refusal) Accepted) (record { refusal = Accepted; numbers = K .numbers (s .state); counts = K .counts (s .state) }) (notStored numbers counts (s .refusal))
+
+-- ---- a cascade's design into slices
+unfoldable pub designCall : DesignRecord → List Float → List ℕ → Stored
+designCall d numbers counts =
+    cond (cascadePlaces numbers counts)
+    (cond (eqb (d .refusal) Accepted) (record { refusal = Accepted; numbers = cascadeNumbers (d .cascade); counts = cascadeCounts (d .cascade) }) (notStored numbers counts (d .refusal)))
+    (notStored numbers counts BadCall)
+
+-- ---- taps, designed or ready-made, into slices
+
+-- the window of a code
+abbrev pub windowOf : ℕ → WindowType
+windowOf n = cond (eqb n 0) WindowType.Rectangular (cond (eqb n 1) WindowType.Hamming (cond (eqb n 2) WindowType.Hanning WindowType.Blackman))
+
+pub record TapsStored : Type 0 where
+  pub refusal : ℕ
+  pub taps : List Float
+  pub samples : List Float
+  pub counts : List ℕ
+
+module _ (taps samples : List Float) (counts : List ℕ) where
+  abbrev pub tapsUnchanged : ℕ → TapsStored
+  tapsUnchanged n = record { refusal = n; taps = taps; samples = samples; counts = counts }
+
+  unfoldable pub tapsPlaces : Bool
+  tapsPlaces = eqb (length taps) capacity && (eqb (length samples) capacity && eqb (length counts) 3)
+
+  unfoldable pub madeCall : Made → TapsStored
+  madeCall m =
+      cond tapsPlaces
+      (cond (eqb (m .refusal) Accepted) (record { refusal = Accepted; taps = m .filter .taps; samples = m .filter .samples; counts = tapsCounts (m .filter) }) (tapsUnchanged (m .refusal)))
+      (tapsUnchanged BadCall)
+
+  -- a FIR design by the window's code; there is none above 3
+  unfoldable pub firCall : ℕ → Float → ℕ → TapsStored
+  firCall n cutoff window = cond (leb window Blackman) (madeCall (firLp n cutoff (windowOf window))) (tapsUnchanged BadCall)

@@ -1,0 +1,72 @@
+-- `c_designs::hand_out_taps` meets its contract.
+use mathlib.Core.Path.{_≡_, sym, _∙_}
+use mathlib.Core.Bool.{true}
+use mathlib.Core.List.{_∷_, []}
+use lib.Dec.{eqb}
+use borrow.Author.Tests.{not-true, not-false, eq-eqb}
+use Rattle.c_layout.proofs.Laws.{cond-true}
+use lib.ListN.{length}
+use Rattle.fir_theory.specs.Lent.{capacity}
+use Rattle.fir.specs.View.{madeView}
+use Rattle.c_calls.specs.Kinds.{tapsCounts}
+use Rattle.c_calls.specs.Calls.{tapsPlaces}
+use Rattle.c_calls.proofs.Laws.{taps-lengths, made-unfit, made-refused, made-accepted}
+use Rattle.lists.proofs.Copies.{copied-same}
+use borrow.Author.Needs.{needs}
+use Rattle.c_designs.proofs.hand_out_taps.Statement.{statement}
+use Rattle.c_designs.proofs.hand_out_taps.Tie as tie
+
+places : (e : tie.Else1) → tapsPlaces (e .before .before .before .before .before .before .before .before .args .taps .now) (e .before .before .before .before .before .before .before .before .args .samples .now) (e .before .before .before .before .before .before .before .before .args .counts .now) ≡ true
+places e = sym (e .before .has-tap-places .ensures) ∙ not-false _ (e .if1 .left)
+
+taps-are : (s : tie.Start) → length (s .args .m .filter .taps) ≡ capacity
+taps-are s = search needs
+
+samples-are : (s : tie.Start) → length (s .args .m .filter .samples) ≡ capacity
+samples-are s = search needs
+
+returns : tie.Need-returns
+returns c = made-unfit _ _ _ _ (sym (c .before .has-tap-places .ensures) ∙ not-true _ (c .if1 .taken))
+
+returns-2 : tie.Need-returns-2
+returns-2 c = made-refused (madeView (c .before .before .before .before .before .before .before .before .before .args .m)) _ _ _ (places (c .before)) (c .if2 .taken)
+
+returns-3 : tie.Need-returns-3
+unfolding tapsCounts
+returns-3 c =
+    let copied2 : tie.After-copy2 = search in
+    let copied1 : tie.After-copy = search in
+    let e : tie.Else1 = search in
+    let start : tie.Start = search in
+    let f = start .args .m .filter in
+    let l = taps-lengths _ _ _ (places e) in
+    let cs = start .args .counts .now in
+    let taps-kept = copied1 .copy .ensures ∙ copied-same (f .taps) (start .args .taps .now) (taps-are start ∙ sym (l .0)) in
+    let samples-kept = copied2 .copy2 .ensures ∙ copied-same (f .samples) (start .args .samples .now) (samples-are start ∙ sym (l .1)) in
+    let else2 : tie.Else2 = search in
+    made-accepted (madeView (start .args .m)) _ _ _ (places e) (else2 .if2 .left) taps-kept samples-kept
+    (c .before .before .put-counts .ensures .1 ∙ cond-true (eqb (length cs) 3) (f .length ∷ f .held ∷ f .window ∷ []) cs (eq-eqb (length cs) 3 (l .2)))
+
+pub hand-out-taps-spec : {M : Type 1} → statement M
+hand-out-taps-spec =
+    tie.close
+    (tie.spec
+    (λ c κs. search needs)
+    (λ c. search needs)
+    (λ c. search needs)
+    (λ c. search needs)
+    returns
+    (λ c. search needs)
+    (λ c. search needs)
+    (λ c. search needs)
+    returns-2
+    (λ c. search needs)
+    (λ c κs. search needs)
+    (λ c. search needs)
+    (λ c κs. search needs)
+    (λ c. search needs)
+    (λ c κs. search needs)
+    (λ c. search needs)
+    (λ c. search needs)
+    (λ c. search needs)
+    returns-3)

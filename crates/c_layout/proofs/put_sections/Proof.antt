@@ -1,0 +1,28 @@
+-- `c_layout::put_sections` meets its contract.
+use native.Mathlib.Omega.{arith}
+use lib.ListN.{length}
+use mathlib.Core.Path.{_≡_}
+use Rattle.c_layout.proofs.Places.{sections-written}
+use borrow.Author.Needs.{needs}
+use Rattle.c_layout.proofs.put_sections.Statement.{statement}
+use Rattle.c_layout.proofs.put_sections.Tie as tie
+
+returns : tie.Need-returns
+returns c = let s = c .before .before .before .before .before .before .before .before .before .before .before .before .before .before .before .before .before .before .before .before .before in
+    let four : length (s .args .t1) ≡ 4 = omega (arith, s .good .0 .1 .0 .1) in
+    sections-written (s .args .numbers .now) (s .args .t1) _ (s .pre) four (c .before .before .before .before .before .before .before .before .before .before .before .before .before .before .before .before .before .put-section .ensures) (c .before .before .before .before .before .before .before .before .before .before .before .before .put-section2 .ensures) (c .before .before .before .before .before .before .before .put-section3 .ensures) (c .before .before .put-section4 .ensures)
+
+pub put-sections-spec : {M : Type 1} → statement M
+put-sections-spec =
+    tie.close
+    (tie.spec
+    (λ c. search needs)
+    (λ c κs. search needs)
+    (λ c. search needs)
+    (λ c κs. search needs)
+    (λ c. search needs)
+    (λ c κs. search needs)
+    (λ c. search needs)
+    (λ c κs. search needs)
+    (λ c. search needs)
+    returns)

@@ -1,0 +1,123 @@
+// 01's table of refusals for designs, and the order of checks of each kind of design. `validate_params` is that of 000
+// and of 001.
+ghost use mathlib.Core.Path.{_≡_};
+ghost use Rattle.runs.specs.Refusals.{orderRefused};
+ghost use Rattle.design_checks.specs.Checks.{notPositive, cutoffRefused, bandRefused, validateParams, validateBand, validateChebyshev, validateFir};
+use fir::TapRecord;
+
+// The largest orders.
+const MAX_ORDER: usize = 8;
+
+const MAX_BAND_ORDER: usize = 4;
+
+// 1: order 0 or above the most.
+fn order_refused(order: usize, most: usize) -> bool
+    ensures { λ r. ⌜ r ≡ orderRefused order most ⌝ }
+{
+    if order == 0 {
+        return true;
+    }
+    order > most
+}
+
+// 3, of a rate, and 4, of decibels: NaN or at most 0.
+fn not_positive(x: f64) -> bool
+    ensures { λ r. ⌜ r ≡ notPositive x ⌝ }
+{
+    if x != x {
+        return true;
+    }
+    x <= 0.0
+}
+
+// 2: cutoff NaN, at most 0, or at least the limit: rate × 0.5, and 0.5 for the FIR.
+fn cutoff_refused(cutoff: f64, limit: f64) -> bool
+    ensures { λ r. ⌜ r ≡ cutoffRefused cutoff limit ⌝ }
+{
+    if cutoff != cutoff {
+        return true;
+    }
+    if cutoff <= 0.0 {
+        return true;
+    }
+    cutoff >= limit
+}
+
+// 2, band pass: an edge NaN, low at most 0, high at most low, high at least rate × 0.5.
+fn band_refused(low: f64, high: f64, rate: f64) -> bool
+    ensures { λ r. ⌜ r ≡ bandRefused low high rate ⌝ }
+{
+    if low != low {
+        return true;
+    }
+    if high != high {
+        return true;
+    }
+    if low <= 0.0 {
+        return true;
+    }
+    if high <= low {
+        return true;
+    }
+    high >= rate * 0.5
+}
+
+// The checks of the low pass and the high pass, with which the Chebyshev designs begin, in the order 1, 3, 2: 0, or the
+// refusal number.
+pub fn validate_params(cutoff: f64, sample_rate: f64, order: usize) -> u8
+    ensures { λ r. ⌜ r ≡ validateParams cutoff «sample_rate» order ⌝ }
+{
+    if order_refused(order, MAX_ORDER) {
+        return runs::INVALID_ORDER;
+    }
+    if not_positive(sample_rate) {
+        return runs::INVALID_SAMPLE_RATE;
+    }
+    if cutoff_refused(cutoff, sample_rate * 0.5) {
+        return runs::INVALID_FREQUENCY;
+    }
+    0
+}
+
+// The checks of the Chebyshev designs, in the order 1, 3, 2, 4: 0, or the refusal number.
+pub fn validate_chebyshev(cutoff: f64, db: f64, sample_rate: f64, order: usize) -> u8
+    ensures { λ r. ⌜ r ≡ validateChebyshev cutoff db «sample_rate» order ⌝ }
+{
+    let refusal = validate_params(cutoff, sample_rate, order);
+    if refusal != 0 {
+        return refusal;
+    }
+    if not_positive(db) {
+        return runs::INVALID_RIPPLE;
+    }
+    0
+}
+
+// The checks of the band pass, in the order 1, 2, 3: 0, or the refusal number.
+pub fn validate_band(low: f64, high: f64, sample_rate: f64, order: usize) -> u8
+    ensures { λ r. ⌜ r ≡ validateBand low high «sample_rate» order ⌝ }
+{
+    if order_refused(order, MAX_BAND_ORDER) {
+        return runs::INVALID_ORDER;
+    }
+    if band_refused(low, high, sample_rate) {
+        return runs::INVALID_FREQUENCY;
+    }
+    if not_positive(sample_rate) {
+        return runs::INVALID_SAMPLE_RATE;
+    }
+    0
+}
+
+// The checks of the FIR, in the order 1, 2: 0, or the refusal number.
+pub fn validate_fir(taps: usize, cutoff: f64) -> u8
+    ensures { λ r. ⌜ r ≡ validateFir taps cutoff ⌝ }
+{
+    if order_refused(taps, TapRecord::MAX_TAPS) {
+        return runs::INVALID_ORDER;
+    }
+    if cutoff_refused(cutoff, 0.5) {
+        return runs::INVALID_FREQUENCY;
+    }
+    0
+}

@@ -1,0 +1,10 @@
+-- `design_request::of_cascade` meets its contract.
+use borrow.Author.Needs.{needs}
+use Rattle.design_request.proofs.of_cascade.Statement.{statement}
+use Rattle.design_request.proofs.of_cascade.Tie as tie
+
+returns : tie.Need-returns
+returns c = rw (c .blank .ensures)
+
+pub of-cascade-spec : {M : Type 1} → statement M
+of-cascade-spec = tie.close (tie.spec (λ c κs. search needs) returns)

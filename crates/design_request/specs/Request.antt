@@ -1,0 +1,42 @@
+-- 01's design request: its check, and the design of each kind.
+use Prim.Native.Nat.{ℕ}
+use Rattle.cascade_theory.specs.Cascade.{CascadeRecord, blankCascade}
+use Rattle.fir_theory.specs.Fir.{TapsRecord, Made, blankTaps}
+use Rattle.fir_theory.specs.Lent.{capacity}
+use Rattle.design_checks.specs.Checks.{validateParams, validateChebyshev, validateBand, validateFir}
+use Rattle.design_fir.specs.Fir.{firLp}
+use Rattle.design_cascade.specs.Design.{DesignRecord}
+use Rattle.design_cascade.specs.LowPass.{butterworthLp, butterworthHp, chebyshev1Lp, chebyshev2Lp}
+use Rattle.design_cascade.specs.BandPass.{butterworthBp}
+use Rattle.design_request.specs.declared.DesignRequest.{DesignRequest}
+use Rattle.design_request.specs.declared.DesignRequest.the-variants.{LowPass, HighPass, BandPass, Chebyshev1, Chebyshev2, Fir}
+
+-- the refusal number, or 0
+abbrev pub checkRequest : DesignRequest → ℕ
+checkRequest (LowPass order cutoff rate) = validateParams cutoff rate order
+checkRequest (HighPass order cutoff rate) = validateParams cutoff rate order
+checkRequest (BandPass order low high rate) = validateBand low high rate order
+checkRequest (Chebyshev1 order cutoff db rate) = validateChebyshev cutoff db rate order
+checkRequest (Chebyshev2 order cutoff db rate) = validateChebyshev cutoff db rate order
+checkRequest (Fir taps cutoff window) = validateFir taps cutoff
+
+-- a refusal number or 0, a cascade and a tap record
+pub record DesignedRecord : Type 0 where
+  pub refusal : ℕ
+  pub cascade : CascadeRecord
+  pub filter : TapsRecord
+
+-- the record not asked for is blank
+abbrev pub ofCascade : DesignRecord → DesignedRecord
+ofCascade d = record { refusal = d .refusal; cascade = d .cascade; filter = blankTaps capacity }
+
+abbrev pub ofTaps : Made → DesignedRecord
+ofTaps m = record { refusal = m .refusal; cascade = blankCascade; filter = m .filter }
+
+abbrev pub designOf : DesignRequest → DesignedRecord
+designOf (LowPass order cutoff rate) = ofCascade (butterworthLp order cutoff rate)
+designOf (HighPass order cutoff rate) = ofCascade (butterworthHp order cutoff rate)
+designOf (BandPass order low high rate) = ofCascade (butterworthBp order low high rate)
+designOf (Chebyshev1 order cutoff db rate) = ofCascade (chebyshev1Lp order cutoff db rate)
+designOf (Chebyshev2 order cutoff db rate) = ofCascade (chebyshev2Lp order cutoff db rate)
+designOf (Fir taps cutoff window) = ofTaps (firLp taps cutoff window)

@@ -1,0 +1,8 @@
+-- The code's types, read field by field.
+use Rattle.cascade.specs.View.{cascadeView}
+use Rattle.fir.specs.View.{tapsView}
+use Rattle.design_request.specs.Request.{DesignedRecord}
+use Rattle.design_request.specs.declared.Designed.{Designed}
+
+abbrev pub designedView : Designed → DesignedRecord
+designedView d = record { refusal = d .refusal; cascade = cascadeView (d .cascade); filter = tapsView (d .filter) }

@@ -1,0 +1,101 @@
+// Floats in their written forms: bits, names, or decimals with a sign and a point.
+ghost use mathlib.Core.Path.{_≡_};
+ghost use Prim.Native.Nat.{_≤_};
+ghost use lib.ListN.{length};
+ghost use Rattle.text_decimals.specs.Decimals.{valueAfter};
+ghost use Rattle.text_numbers.specs.Numbers.{unsigned as Numbers·unsigned, negated as Numbers·negated, signed as Numbers·signed, named as Numbers·named, floatOf};
+use text_decimals::FloatToken;
+use text_decimals::decimal;
+use text_decimals::digit;
+use text_tokens::Class;
+use text_tokens::run_of;
+use text_tokens::same_bytes;
+
+// The number that hexadecimal digits write.
+fn hexadecimal(digits: &[u8]) -> u64
+    requires { ⌜ length (now digits) ≤ 16 ⌝ }
+    ensures { λ r. ⌜ r ≡ valueAfter 16 0 (now (digits .entry)) ⌝ }
+{
+    let mut value: u64 = 0;
+    let mut i: usize = 0;
+    while i < digits.len() {
+        value = value * 16 + digit(digits[i]);
+        i += 1;
+    }
+    value
+}
+
+// Digits, and optionally a point and more digits.
+fn unsigned(token: &[u8]) -> FloatToken
+    ensures { λ r. ⌜ r ≡ Numbers·unsigned (now (token .entry)) ⌝ }
+{
+    let n = run_of(Class::Digit, token, 0);
+    if n >= token.len() {
+        return decimal(token, &[]);
+    }
+    if token[n] != 46 {
+        return FloatToken::NotANumber;
+    }
+    let from = n + 1;
+    let end = run_of(Class::Digit, token, from);
+    if end != token.len() {
+        return FloatToken::NotANumber;
+    }
+    if end <= from {
+        return FloatToken::NotANumber;
+    }
+    decimal(&token[..n], &token[from..])
+}
+
+fn negated(f: FloatToken) -> FloatToken
+    ensures { λ r. ⌜ r ≡ Numbers·negated f ⌝ }
+{
+    match f {
+        FloatToken::Number(x) => FloatToken::Number(-x),
+        FloatToken::NotANumber => FloatToken::NotANumber,
+    }
+}
+
+// An optional `-`.
+fn signed(token: &[u8]) -> FloatToken
+    ensures { λ r. ⌜ r ≡ Numbers·signed (now (token .entry)) ⌝ }
+{
+    if token.len() < 1 {
+        return FloatToken::NotANumber;
+    }
+    if token[0] == 45 {
+        let start: usize = 1;
+        return negated(unsigned(&token[start..]));
+    }
+    unsigned(token)
+}
+
+// `NaN`, `inf`, `-inf`, or a decimal.
+fn named(token: &[u8]) -> FloatToken
+    ensures { λ r. ⌜ r ≡ Numbers·named (now (token .entry)) ⌝ }
+{
+    if same_bytes(token, b"NaN") {
+        return FloatToken::Number(0.0 / 0.0);
+    }
+    if same_bytes(token, b"inf") {
+        return FloatToken::Number(1.0 / 0.0);
+    }
+    if same_bytes(token, b"-inf") {
+        return FloatToken::Number(-1.0 / 0.0);
+    }
+    signed(token)
+}
+
+pub fn float_token(token: &[u8]) -> FloatToken
+    ensures { λ r. ⌜ r ≡ floatOf (now (token .entry)) ⌝ }
+{
+    if token.len() != 16 {
+        return named(token);
+    }
+    if run_of(Class::HexDigit, token, 0) != 16 {
+        return named(token);
+    }
+    let bits = hexadecimal(token);
+    let x = ieee::from_bits(bits);
+    FloatToken::Number(x)
+}
