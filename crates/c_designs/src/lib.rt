@@ -3,15 +3,15 @@ ghost use mathlib.Core.Path.{_≡_};
 ghost use Rattle.fir.specs.View.{madeView};
 ghost use Rattle.design_cascade.specs.View.{designView};
 ghost use Rattle.c_calls.specs.Calls.{designCall, tapsPlaces, madeCall, windowOf};
-use design_cascade::Design;
-use fir::Made;
-use fir::TapRecord;
 use c_layout::COUNTS;
 use c_layout::has_places;
 use c_layout::put_counts;
 use c_layout::write;
-use lists::copy;
+use design_cascade::Design;
 use design_fir::WindowType;
+use fir::Made;
+use fir::TapRecord;
+use lists::copy;
 
 // A cascade design into slices: 0, or the number that refuses it.
 pub fn hand_out(d: Design, numbers: &mut [f64], counts: &mut [usize]) -> u8

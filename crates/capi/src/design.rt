@@ -5,16 +5,16 @@ ghost use Rattle.fir_theory.specs.Lent.{capacity};
 ghost use Rattle.design_cascade.specs.LowPass.{butterworthLp, butterworthHp, chebyshev1Lp, chebyshev2Lp};
 ghost use Rattle.design_cascade.specs.BandPass.{butterworthBp};
 ghost use Rattle.c_calls.specs.Calls.{designCall, madeCall, firCall};
+use c_designs::hand_out;
+use c_designs::hand_out_taps;
+use c_designs::window_of;
 use design_cascade::design_butterworth_bp;
 use design_cascade::design_butterworth_hp;
 use design_cascade::design_butterworth_lp;
 use design_cascade::design_chebyshev1_lp;
 use design_cascade::design_chebyshev2_lp;
-use fir::TapRecord;
-use c_designs::hand_out;
-use c_designs::hand_out_taps;
-use c_designs::window_of;
 use design_fir::design_fir_lp;
+use fir::TapRecord;
 
 // A Butterworth low pass.
 #[no_mangle]

@@ -16,10 +16,10 @@ ghost use Rattle.cascade.specs.View.{cascadeView, updatedView, resetView
 use parts::enter;
 use parts::pass_sections;
 use parts::reset_sections;
+use pipeline::Four;
 use runs::Answer;
 use sections::FirstOrder;
 use sections::Section;
-use pipeline::Four;
 
 pub struct Cascade {
     pub sections: [Section; 4],

@@ -5,20 +5,20 @@ ghost use Rattle.design_cascade.specs.View.{designView};
 ghost use Rattle.design_request.specs.Request.{checkRequest, ofCascade, ofTaps, designOf};
 ghost use Rattle.design_request.specs.View.{designedView};
 use cascade::Cascade;
-use design_checks::validate_band;
-use design_checks::validate_chebyshev;
-use design_checks::validate_fir;
-use design_checks::validate_params;
 use design_cascade::Design;
 use design_cascade::design_butterworth_bp;
 use design_cascade::design_butterworth_hp;
 use design_cascade::design_butterworth_lp;
 use design_cascade::design_chebyshev1_lp;
 use design_cascade::design_chebyshev2_lp;
-use fir::Made;
-use fir::TapRecord;
+use design_checks::validate_band;
+use design_checks::validate_chebyshev;
+use design_checks::validate_fir;
+use design_checks::validate_params;
 use design_fir::WindowType;
 use design_fir::design_fir_lp;
+use fir::Made;
+use fir::TapRecord;
 
 // What may be asked for. A FIR's cutoff is a share of the rate.
 pub enum DesignRequest {

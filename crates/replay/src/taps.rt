@@ -10,10 +10,10 @@ use crate::compare::meets_block;
 use crate::compare::meets_refusal;
 use crate::compare::places;
 use crate::compare::word;
+use design_fir::WindowType;
+use design_request::DesignRequest;
 use fir::Made;
 use fir::TapRecord;
-use design_request::DesignRequest;
-use design_fir::WindowType;
 
 // The first `length` taps.
 fn meet_taps(

@@ -10,10 +10,12 @@ use super::put::put_next;
 use super::put::put_refused;
 use super::records::Records;
 use cascade::Cascade;
-use design_cascade::Design;
+use design_request::DesignRequest;
+use design_request::Designed;
+use design_request::design;
+use sections::Section;
 use text_answers::put_bytes;
 use text_answers::put_count;
-use sections::Section;
 
 pub(crate) enum CascadeKind {
     LowPass,
@@ -75,18 +77,43 @@ fn floats_of(kind: CascadeKind) -> usize
     }
 }
 
-fn design(kind: CascadeKind, p: OrderAndFloats) -> Design {
+// 01's design request of a line.
+fn requested(kind: CascadeKind, p: OrderAndFloats) -> DesignRequest {
+    let order = p.order;
     match kind {
-        CascadeKind::LowPass => design_cascade::design_butterworth_lp(p.order, p.a, p.b),
-        CascadeKind::HighPass => design_cascade::design_butterworth_hp(p.order, p.a, p.b),
-        CascadeKind::BandPass => design_cascade::design_butterworth_bp(p.order, p.a, p.b, p.c),
-        CascadeKind::Chebyshev1 => design_cascade::design_chebyshev1_lp(p.order, p.a, p.b, p.c),
-        CascadeKind::Chebyshev2 => design_cascade::design_chebyshev2_lp(p.order, p.a, p.b, p.c),
+        CascadeKind::LowPass => DesignRequest::LowPass {
+            order,
+            cutoff: p.a,
+            sample_rate: p.b,
+        },
+        CascadeKind::HighPass => DesignRequest::HighPass {
+            order,
+            cutoff: p.a,
+            sample_rate: p.b,
+        },
+        CascadeKind::BandPass => DesignRequest::BandPass {
+            order,
+            low: p.a,
+            high: p.b,
+            sample_rate: p.c,
+        },
+        CascadeKind::Chebyshev1 => DesignRequest::Chebyshev1 {
+            order,
+            cutoff: p.a,
+            ripple_db: p.b,
+            sample_rate: p.c,
+        },
+        CascadeKind::Chebyshev2 => DesignRequest::Chebyshev2 {
+            order,
+            cutoff: p.a,
+            stopband_db: p.b,
+            sample_rate: p.c,
+        },
     }
 }
 
 // What a design answers.
-fn put_design(output: &mut [u8], at: usize, d: Design) -> usize {
+fn put_design(output: &mut [u8], at: usize, d: Designed) -> usize {
     if d.refusal != 0 {
         return put_refused(output, at, d.refusal);
     }
@@ -106,7 +133,7 @@ pub(crate) fn answer_cascade(
     let Fault::None = fault else {
         return answer_fault(fault, output, at, records);
     };
-    let d = design(kind, p);
+    let d = design(requested(kind, p));
     let designed = d.cascade;
     let at = put_design(output, at, d);
     end_answer(output, at, records.with_cascade(designed))

@@ -10,6 +10,8 @@ use super::parameters::read_floats;
 use super::put::put_floats;
 use super::put::put_refused;
 use super::records::Records;
+use design_request::DesignRequest;
+use design_request::design;
 use fir::Made;
 use fir::TapRecord;
 use text_answers::put_bytes;
@@ -55,7 +57,16 @@ pub(crate) fn answer_fir(rest: &[u8], output: &mut [u8], at: usize, records: Rec
         return answer_fault(fault, output, at, records);
     };
     let window = p.window;
-    let made = design_fir::design_fir_lp(p.taps, p.cutoff, window);
+    let d = design(DesignRequest::Fir {
+        taps: p.taps,
+        cutoff: p.cutoff,
+        window,
+    });
+    let filter = d.filter;
+    let made = Made {
+        filter,
+        refusal: d.refusal,
+    };
     answer_made(made, output, at, records)
 }
 

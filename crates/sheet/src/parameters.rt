@@ -7,12 +7,12 @@ use super::line::bytes_of;
 use super::line::token_count;
 use super::words::WindowName;
 use super::words::window_of;
+use design_fir::WindowType;
 use text_answers::CountToken;
 use text_answers::FloatToken;
 use text_answers::count_token;
 use text_answers::float_token;
 use text_answers::next_token;
-use design_fir::WindowType;
 
 // The most samples of a block, places of its output, and ready-made taps of a line.
 pub(crate) const MOST: usize = 256;

@@ -2,8 +2,8 @@
 use super::cascades::CascadeKind;
 use super::functions::Function;
 use super::records::RecordKind;
-use text_answers::same_bytes;
 use design_fir::WindowType;
+use text_answers::same_bytes;
 
 // The designs are Cascade and Fir; Taps is ready-made taps.
 pub(crate) enum Request {

@@ -2,13 +2,13 @@
 // and floats in their written forms (crates text_decimals and numbers), and the bytes of an answer.
 mod print;
 
+pub use print::put_bytes;
+pub use print::put_count;
+pub use print::put_float;
 pub use text_decimals::CountToken;
 pub use text_decimals::FloatToken;
 pub use text_decimals::count_token;
 pub use text_numbers::float_token;
-pub use print::put_bytes;
-pub use print::put_count;
-pub use print::put_float;
 pub use text_tokens::Class;
 pub use text_tokens::Span;
 pub use text_tokens::next_token;
