@@ -9,7 +9,7 @@ use lib.ListN.{length, length-map, length-replicate}
 use lib.Ieee.{Float, Format, binary64}
 use borrow.Author.Tests.{eq-eqb}
 use Rattle.runs.specs.Runs.{plusZero}
-use Rattle.cascade_theory.specs.Section.{Biquad, clearedBiquad, sectionOut}
+use Rattle.cascade_theory.specs.Section.{SectionRecord, clearedSection, sectionOut}
 use Rattle.cascade_theory.specs.Parts.{sectionsNext}
 use Rattle.cascade_theory.specs.Cascade.{CascadeRecord, clearedCascade, entered, moved, next}
 use Rattle.cascade_theory.proofs.Laws.{check-next}
@@ -25,7 +25,7 @@ use Rattle.c_calls.proofs.Lists.{ReadBack}
 
 -- ---- a cascade: it has four sections
 
-next-length : (f : Format) (n : ℕ) (ss : List Biquad) (x : Float) → length (sectionsNext f n ss x) ≡ length ss
+next-length : (f : Format) (n : ℕ) (ss : List SectionRecord) (x : Float) → length (sectionsNext f n ss x) ≡ length ss
 next-length f zero ss x = refl
 next-length f (suc n) [] x = refl
 next-length f (suc n) (s ∷ ss) x = ap suc (next-length f n ss (sectionOut f s x))
@@ -34,10 +34,10 @@ pub cascade-back : (c : CascadeRecord) → length (c .sections) ≡ 4 → (casca
 unfolding cascadeAt cascadeNumbers sectionsNumbers cascadeCounts cascadePlaces cascadeFits
 cascade-back c h = go (c .sections) (c .hasFirst) (c .clouded) h
   where
-    with : List Biquad → Bool → Bool → CascadeRecord
+    with : List SectionRecord → Bool → Bool → CascadeRecord
     with ss a b = record { sections = ss; count = c .count; first = c .first; hasFirst = a; clouded = b }
 
-    go : (ss : List Biquad) (a b : Bool) → length ss ≡ 4
+    go : (ss : List SectionRecord) (a b : Bool) → length ss ≡ 4
         → (cascadeAt (cascadeNumbers (with ss a b)) (cascadeCounts (with ss a b)) ≡ with ss a b) × (cascadeFits (cascadeNumbers (with ss a b)) (cascadeCounts (with ss a b)) ≡ true)
     go [] a b e = absurd (omega (arith, e))
     go (s₀ ∷ []) a b e = absurd (omega (arith, e))
@@ -55,7 +55,7 @@ cascade-read-back = record {
   Good = λ c. length (c .sections) ≡ 4;
   good-read = λ numbers counts fit. refl;
   good-next = λ c x h g. next-length binary64 (c .count) (c .sections) (entered binary64 c x) ∙ g;
-  good-cleared = λ c g. length-map (c .sections) clearedBiquad ∙ g;
+  good-cleared = λ c g. length-map (c .sections) clearedSection ∙ g;
   keeps = check-next binary64;
   back = λ c g. cascade-back c g .0;
   fit-back = λ c g. cascade-back c g .1;

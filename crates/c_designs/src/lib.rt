@@ -7,14 +7,14 @@ use c_layout::COUNTS;
 use c_layout::has_places;
 use c_layout::put_counts;
 use c_layout::write;
-use design_cascade::Design;
+use design_cascade::CascadeDesignResult;
 use design_fir::WindowType;
-use fir::Made;
+use fir::FirDesignResult;
 use fir::TapRecord;
 use lists::copy;
 
 // A cascade design into slices: 0, or the number that refuses it.
-pub fn hand_out(d: Design, numbers: &mut [f64], counts: &mut [usize]) -> u8
+pub fn hand_out(d: CascadeDesignResult, numbers: &mut [f64], counts: &mut [usize]) -> u8
     ensures { λ r. ⌜ record { refusal = r; numbers = now (numbers .exit); counts = now (counts .exit) }
         ≡ designCall (designView d) (now (numbers .entry)) (now (counts .entry)) ⌝ }
 {
@@ -43,7 +43,7 @@ fn has_tap_places(taps: &[f64], samples: &[f64], counts: &[usize]) -> bool
 }
 
 // A tap record into slices: 0, or the number that refuses it.
-pub fn hand_out_taps(m: Made, taps: &mut [f64], samples: &mut [f64], counts: &mut [usize]) -> u8
+pub fn hand_out_taps(m: FirDesignResult, taps: &mut [f64], samples: &mut [f64], counts: &mut [usize]) -> u8
     ensures { λ r. ⌜ record { refusal = r; taps = now (taps .exit); samples = now (samples .exit); counts = now (counts .exit) }
         ≡ madeCall (now (taps .entry)) (now (samples .entry)) (now (counts .entry)) (madeView m) ⌝ }
 {

@@ -5,12 +5,12 @@ use mathlib.Core.List.{List, [], _∷_, _++_}
 use lib.Dec.{eqb, leb}
 use lib.ListN.{length, getD}
 use lib.Ieee.{Float, nan}
-use Rattle.cascade_theory.specs.Section.{Biquad}
-use Rattle.cascade_theory.specs.FirstOrder.{FirstPart}
+use Rattle.cascade_theory.specs.Section.{SectionRecord}
+use Rattle.cascade_theory.specs.FirstOrder.{FirstOrderRecord}
 use Rattle.cascade_theory.specs.Cascade.{CascadeRecord}
 
 -- a section's seven numbers, from place k on
-abbrev pub sectionAt : List Float → ℕ → Biquad
+abbrev pub sectionAt : List Float → ℕ → SectionRecord
 sectionAt xs k = record {
   b0 = getD xs k nan;
   b1 = getD xs (k + 1) nan;
@@ -22,7 +22,7 @@ sectionAt xs k = record {
 }
 
 -- the first-order part's four
-abbrev pub firstAt : List Float → ℕ → FirstPart
+abbrev pub firstAt : List Float → ℕ → FirstOrderRecord
 firstAt xs k = record { b0 = getD xs k nan; b1 = getD xs (k + 1) nan; a1 = getD xs (k + 2) nan; w = getD xs (k + 3) nan }
 
 -- four sections, then the first-order part; the counts are the section count, the first-order flag and the cloud flag
@@ -36,14 +36,14 @@ cascadeAt numbers counts = record {
 }
 
 -- and back
-abbrev pub sectionNumbers : Biquad → List Float
+abbrev pub sectionNumbers : SectionRecord → List Float
 sectionNumbers s = s .b0 ∷ s .b1 ∷ s .b2 ∷ s .a1 ∷ s .a2 ∷ s .w1 ∷ s .w2 ∷ []
 
-unfoldable pub sectionsNumbers : List Biquad → List Float
+unfoldable pub sectionsNumbers : List SectionRecord → List Float
 sectionsNumbers [] = []
 sectionsNumbers (s ∷ ss) = sectionNumbers s ++ sectionsNumbers ss
 
-abbrev pub firstNumbers : FirstPart → List Float
+abbrev pub firstNumbers : FirstOrderRecord → List Float
 firstNumbers p = p .b0 ∷ p .b1 ∷ p .a1 ∷ p .w ∷ []
 
 unfoldable pub cascadeNumbers : CascadeRecord → List Float

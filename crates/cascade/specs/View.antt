@@ -6,21 +6,21 @@ use Rattle.runs.specs.View.{answerView}
 use Rattle.sections.specs.View.{sectionView, firstView}
 use Rattle.cascade_theory.specs.Cascade.{CascadeRecord, cascade}
 use Rattle.cascade.specs.declared.Cascade.{Cascade}
-use Rattle.cascade.specs.declared.Updated.{Updated}
-use Rattle.cascade.specs.declared.WasReset.{WasReset}
-use Rattle.cascade.specs.declared.Blocked.{Blocked}
+use Rattle.cascade.specs.declared.UpdateResult.{UpdateResult}
+use Rattle.cascade.specs.declared.ResetResult.{ResetResult}
+use Rattle.cascade.specs.declared.BlockResult.{BlockResult}
 
 abbrev pub cascadeView : Cascade → CascadeRecord
 cascadeView c = record { sections = map sectionView (c .sections); count = c .count; first = firstView (c .first); hasFirst = c .«has_first»; clouded = c .clouded }
 
-abbrev pub updatedView : Updated → Step CascadeRecord
+abbrev pub updatedView : UpdateResult → Step CascadeRecord
 updatedView r = record { answer = answerView (r .answer); state = cascadeView (r .cascade) }
 
-abbrev pub resetView : WasReset → Reset CascadeRecord
+abbrev pub resetView : ResetResult → Reset CascadeRecord
 resetView r = record { refusal = r .refusal; state = cascadeView (r .cascade) }
 
 -- with the output after it
-abbrev pub blockView : Blocked → List Float → Block CascadeRecord
+abbrev pub blockView : BlockResult → List Float → Block CascadeRecord
 blockView r output = record { refusal = r .refusal; clouded = r .clouded; state = cascadeView (r .cascade); output = output }
 
 -- a fresh cascade at f64

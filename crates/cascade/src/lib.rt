@@ -33,26 +33,26 @@ pub struct Cascade {
 }
 
 // What `update` returns.
-pub struct Updated {
+pub struct UpdateResult {
     pub answer: Answer,
     pub cascade: Cascade,
 }
 
 // What `reset` returns: 0 or the refusal number, and the cascade.
-pub struct WasReset {
+pub struct ResetResult {
     pub refusal: u8,
     pub cascade: Cascade,
 }
 
 // What `block` returns: 0 or the refusal number, how many answers were Clouded, and the cascade.
-pub struct Blocked {
+pub struct BlockResult {
     pub refusal: u8,
     pub clouded: usize,
     pub cascade: Cascade,
 }
 
 // A number that came out of the cascade, and the cascade after it.
-struct Passed {
+struct PassResult {
     out: f64,
     cascade: Cascade,
 }
@@ -109,7 +109,7 @@ impl Cascade {
     }
 
     // The number answered to x, and the cascade with its carried values after it. The flag is as it was.
-    fn moved(self, x: f64) -> Passed
+    fn moved(self, x: f64) -> PassResult
         ensures { λ r. ⌜ (r .out ≡ value binary64 (cascadeView self) x) × (cascadeView (r .cascade) ≡ moved binary64 (cascadeView self) x) ⌝ }
     {
         let old = self.first;
@@ -119,7 +119,7 @@ impl Cascade {
         let count = self.count;
         let t = pass_sections(before, count, e.out);
         let sections = t.sections;
-        Passed {
+        PassResult {
             out: t.out,
             cascade: Cascade {
                 sections,
@@ -132,25 +132,25 @@ impl Cascade {
     }
 
     // The same with the flag after x.
-    fn pass(self, x: f64) -> Passed
+    fn pass(self, x: f64) -> PassResult
         ensures { λ r. ⌜ (r .out ≡ value binary64 (cascadeView self) x) × (cascadeView (r .cascade) ≡ next binary64 (cascadeView self) x) ⌝ }
     {
         let m = self.moved(x);
         let after = m.cascade;
         let mut cascade = after;
         cascade.clouded = clouds(self, x, m.out, after);
-        Passed {
+        PassResult {
             out: m.out,
             cascade,
         }
     }
 
     // One sample: its answer, and the cascade after it.
-    pub fn update(self, x: f64) -> Updated
+    pub fn update(self, x: f64) -> UpdateResult
         ensures { λ r. ⌜ updatedView r ≡ step (cascade binary64) (cascadeView self) x ⌝ }
     {
         if !self.check() {
-            return Updated {
+            return UpdateResult {
                 answer: Answer::Refused(runs::BAD_CASCADE),
                 cascade: self,
             };
@@ -159,12 +159,12 @@ impl Cascade {
         let y = p.out;
         let cascade = p.cascade;
         if cascade.clouded {
-            Updated {
+            UpdateResult {
                 answer: Answer::Clouded(y),
                 cascade,
             }
         } else {
-            Updated {
+            UpdateResult {
                 answer: Answer::Clear(y),
                 cascade,
             }
@@ -172,11 +172,11 @@ impl Cascade {
     }
 
     // Sets all carried values to +0, those of unused parts too, and clears the cloud flag.
-    pub fn reset(self) -> WasReset
+    pub fn reset(self) -> ResetResult
         ensures { λ r. ⌜ resetView r ≡ reset (cascade binary64) (cascadeView self) ⌝ }
     {
         if !self.check() {
-            return WasReset {
+            return ResetResult {
                 refusal: runs::BAD_CASCADE,
                 cascade: self,
             };
@@ -185,7 +185,7 @@ impl Cascade {
         let sections = reset_sections(old);
         let part = self.first;
         let first = part.reset();
-        WasReset {
+        ResetResult {
             refusal: 0,
             cascade: Cascade {
                 sections,
@@ -198,10 +198,10 @@ impl Cascade {
     }
 
     // What a refused block returns.
-    fn refused_block(self, refusal: u8) -> Blocked
+    fn refused_block(self, refusal: u8) -> BlockResult
         ensures { λ r. ⌜ r ≡ record { refusal = refusal; clouded = 0; cascade = self } ⌝ }
     {
-        Blocked {
+        BlockResult {
             refusal,
             clouded: 0,
             cascade: self,
@@ -209,7 +209,7 @@ impl Cascade {
     }
 
     // A block of samples, one after the other.
-    fn plain_block(self, input: &[f64], output: &mut [f64]) -> Blocked
+    fn plain_block(self, input: &[f64], output: &mut [f64]) -> BlockResult
         requires { ⌜ (checkCascade (cascadeView self) ≡ true) × (length (now input) ≤ length (now output)) ⌝ }
         ensures { λ r. ⌜ blockView r (now (output .exit)) ≡ block (cascade binary64) (cascadeView self) (now (input .entry)) (now (output .entry)) ⌝ }
     {
@@ -226,7 +226,7 @@ impl Cascade {
             }
             i += 1;
         }
-        Blocked {
+        BlockResult {
             refusal: 0,
             clouded,
             cascade,
@@ -253,7 +253,7 @@ impl Cascade {
     }
 
     // The same block with each section one sample behind the section before it.
-    fn skewed_block(self, input: &[f64], output: &mut [f64]) -> Blocked
+    fn skewed_block(self, input: &[f64], output: &mut [f64]) -> BlockResult
         requires { ⌜ (Skewable (cascadeView self) (now input)) × (length (now input) ≤ length (now output)) ⌝ }
         ensures { λ r. ⌜ blockView r (now (output .exit)) ≡ block (cascade binary64) (cascadeView self) (now (input .entry)) (now (output .entry)) ⌝ }
     {
@@ -265,7 +265,7 @@ impl Cascade {
         let s3 = r.four.s3;
         let mut cascade = self;
         cascade.sections = [s0, s1, s2, s3];
-        Blocked {
+        BlockResult {
             refusal: 0,
             clouded: 0,
             cascade,
@@ -274,7 +274,7 @@ impl Cascade {
 
     // A block of samples, each as `update` has it: the answers in the first places of the output, later places left. An
     // output shorter than the input is refused by 5.
-    pub fn block(self, input: &[f64], output: &mut [f64]) -> Blocked
+    pub fn block(self, input: &[f64], output: &mut [f64]) -> BlockResult
         ensures { λ r. ⌜ blockView r (now (output .exit)) ≡ block (cascade binary64) (cascadeView self) (now (input .entry)) (now (output .entry)) ⌝ }
     {
         if !self.check() {

@@ -11,32 +11,32 @@ use Rattle.runs.specs.Forgetting.{Call, run}
 use Rattle.runs.proofs.Laws.{reset-fresh}
 use Rattle.runs.proofs.Forgetting as runs
 use Rattle.runs.proofs.Forgetting.{Simulates}
-use Rattle.cascade_theory.specs.Section.{Biquad, clearedBiquad, sectionOut, sectionNext}
-use Rattle.cascade_theory.specs.FirstOrder.{FirstPart, firstOut, firstNext}
+use Rattle.cascade_theory.specs.Section.{SectionRecord, clearedSection, sectionOut, sectionNext}
+use Rattle.cascade_theory.specs.FirstOrder.{FirstOrderRecord, firstOut, firstNext}
 use Rattle.cascade_theory.specs.Parts.{sectionsOut, sectionsNext}
 use Rattle.cascade_theory.specs.Cascade.{CascadeRecord, checkCascade, clearedCascade, clouding, entered, value, moved, mark, next, cascade}
-use Rattle.cascade_theory.specs.Plain.{SectionCoefficients, Coefficients, sectionCoefficients, firstCoefficients, coefficientsOf, newSection, newPart, last, passFirst, passSection, passSections, passAll, plainValue, plainCascade, CascadeForgets}
+use Rattle.cascade_theory.specs.Plain.{SectionCoefficients, Coefficients, sectionCoefficients, firstCoefficients, coefficientsOf, sectionOf, firstOf, last, passFirst, passSection, passSections, passAll, plainValue, plainCascade, CascadeForgets}
 use Rattle.cascade_theory.proofs.Laws.{check-next}
 
 -- the record that has these coefficients and has taken no sample
 idle : Coefficients → CascadeRecord
-idle g = record { sections = map newSection (g .sections); count = g .count; first = newPart (g .first); hasFirst = g .hasFirst; clouded = false }
+idle g = record { sections = map sectionOf (g .sections); count = g .count; first = firstOf (g .first); hasFirst = g .hasFirst; clouded = false }
 
 -- ---- a reset leaves that record
 
-cleared-sections : (ss : List Biquad) → map clearedBiquad ss ≡ map newSection (map sectionCoefficients ss)
+cleared-sections : (ss : List SectionRecord) → map clearedSection ss ≡ map sectionOf (map sectionCoefficients ss)
 cleared-sections [] = refl
-cleared-sections (s ∷ ss) = ap (λ (l : List Biquad). clearedBiquad s ∷ l) (cleared-sections ss)
+cleared-sections (s ∷ ss) = ap (λ (l : List SectionRecord). clearedSection s ∷ l) (cleared-sections ss)
 
 cleared-idle : (c : CascadeRecord) → clearedCascade c ≡ idle (coefficientsOf c)
 unfolding clearedCascade idle
 cleared-idle c = rw (cleared-sections (c .sections))
 
-cleared-twice : (ss : List Biquad) → map clearedBiquad (map clearedBiquad ss) ≡ map clearedBiquad ss
+cleared-twice : (ss : List SectionRecord) → map clearedSection (map clearedSection ss) ≡ map clearedSection ss
 cleared-twice [] = refl
-cleared-twice (s ∷ ss) = ap (λ (l : List Biquad). clearedBiquad s ∷ l) (cleared-twice ss)
+cleared-twice (s ∷ ss) = ap (λ (l : List SectionRecord). clearedSection s ∷ l) (cleared-twice ss)
 
-same-coefficients : (ss : List Biquad) → map sectionCoefficients (map clearedBiquad ss) ≡ map sectionCoefficients ss
+same-coefficients : (ss : List SectionRecord) → map sectionCoefficients (map clearedSection ss) ≡ map sectionCoefficients ss
 same-coefficients [] = refl
 same-coefficients (s ∷ ss) = ap (λ (l : List SectionCoefficients). sectionCoefficients s ∷ l) (same-coefficients ss)
 
@@ -56,12 +56,12 @@ module _ (f : Format) where
 
   -- ---- a sample leaves the coefficients
 
-  sections-next : (n : ℕ) (ss : List Biquad) (x : Float) → map sectionCoefficients (sectionsNext f n ss x) ≡ map sectionCoefficients ss
+  sections-next : (n : ℕ) (ss : List SectionRecord) (x : Float) → map sectionCoefficients (sectionsNext f n ss x) ≡ map sectionCoefficients ss
   sections-next zero ss x = refl
   sections-next (suc n) [] x = refl
   sections-next (suc n) (s ∷ ss) x = ap (λ (l : List SectionCoefficients). sectionCoefficients s ∷ l) (sections-next n ss (sectionOut f s x))
 
-  first-next : (b : Bool) (p : FirstPart) (x : Float) → firstCoefficients (cond b (firstNext f p x) p) ≡ firstCoefficients p
+  first-next : (b : Bool) (p : FirstOrderRecord) (x : Float) → firstCoefficients (cond b (firstNext f p x) p) ≡ firstCoefficients p
   first-next true p x = refl
   first-next false p x = refl
 
@@ -72,36 +72,36 @@ module _ (f : Format) where
   -- ---- values: stage by stage over a list is sample by sample over the stages
 
   -- whatever the stages carry
-  through : ℕ → List Biquad → List Float → List Float
+  through : ℕ → List SectionRecord → List Float → List Float
   through zero ss xs = xs
   through (suc n) [] xs = xs
   through (suc n) (s ∷ ss) xs = through n ss (passSection f s xs)
 
-  sections-through : (n : ℕ) (gs : List SectionCoefficients) (xs : List Float) → passSections f n gs xs ≡ through n (map newSection gs) xs
+  sections-through : (n : ℕ) (gs : List SectionCoefficients) (xs : List Float) → passSections f n gs xs ≡ through n (map sectionOf gs) xs
   unfolding passSections through
   sections-through zero gs xs = refl
   sections-through (suc n) [] xs = refl
-  sections-through (suc n) (g ∷ gs) xs = sections-through n gs (passSection f (newSection g) xs)
+  sections-through (suc n) (g ∷ gs) xs = sections-through n gs (passSection f (sectionOf g) xs)
 
-  through-cons : (n : ℕ) (ss : List Biquad) (x : Float) (xs : List Float) → through n ss (x ∷ xs) ≡ sectionsOut f n ss x ∷ through n (sectionsNext f n ss x) xs
+  through-cons : (n : ℕ) (ss : List SectionRecord) (x : Float) (xs : List Float) → through n ss (x ∷ xs) ≡ sectionsOut f n ss x ∷ through n (sectionsNext f n ss x) xs
   unfolding through passSection
   through-cons zero ss x xs = refl
   through-cons (suc n) [] x xs = refl
   through-cons (suc n) (s ∷ ss) x xs = through-cons n ss (sectionOut f s x) (passSection f (sectionNext f s x) xs)
 
-  through-nil : (n : ℕ) (ss : List Biquad) → through n ss [] ≡ []
+  through-nil : (n : ℕ) (ss : List SectionRecord) → through n ss [] ≡ []
   unfolding through passSection
   through-nil zero ss = refl
   through-nil (suc n) [] = refl
   through-nil (suc n) (s ∷ ss) = through-nil n ss
 
-  first-cons : (b : Bool) (p : FirstPart) (x : Float) (xs : List Float)
+  first-cons : (b : Bool) (p : FirstOrderRecord) (x : Float) (xs : List Float)
       → cond b (passFirst f p (x ∷ xs)) (x ∷ xs) ≡ cond b (firstOut f p x) x ∷ cond b (passFirst f (cond b (firstNext f p x) p) xs) xs
   unfolding passFirst
   first-cons true p x xs = refl
   first-cons false p x xs = refl
 
-  first-nil : (b : Bool) (p : FirstPart) → cond b (passFirst f p []) [] ≡ []
+  first-nil : (b : Bool) (p : FirstOrderRecord) → cond b (passFirst f p []) [] ≡ []
   unfolding passFirst
   first-nil true p = refl
   first-nil false p = refl
@@ -147,7 +147,7 @@ module _ (f : Format) where
   value-after g kept x =
       ap (λ (c : CascadeRecord). value f c x) (after-ahead g kept) ∙ sym (last-pass (idle g) (reverse kept) x plusZero)
       ∙ ap (λ (l : List Float). last plusZero (pass (idle g) l)) (sym (reverse-cons x kept))
-      ∙ ap (last plusZero) (sym (sections-through (g .count) (g .sections) (cond (g .hasFirst) (passFirst f (newPart (g .first)) (reverse (x ∷ kept))) (reverse (x ∷ kept)))))
+      ∙ ap (last plusZero) (sym (sections-through (g .count) (g .sections) (cond (g .hasFirst) (passFirst f (firstOf (g .first)) (reverse (x ∷ kept))) (reverse (x ∷ kept)))))
 
   mark-after : (g : Coefficients) (kept : List Float) (x : Float) → mark f (after g kept) x ≡ notAllFinite (x ∷ kept)
   unfolding after idle mark next clouding notAllFinite

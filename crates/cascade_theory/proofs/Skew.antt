@@ -10,31 +10,31 @@ use lib.Ieee.{Float, Format, nan}
 use borrow.Author.Tests.{le-leb, le-ltb}
 use Rattle.runs.specs.Runs.{Block, block}
 use Rattle.runs.proofs.Laws.{Running, run-start, run-turn, run-done}
-use Rattle.cascade_theory.specs.Section.{Biquad, sectionOut, sectionNext}
+use Rattle.cascade_theory.specs.Section.{SectionRecord, sectionOut, sectionNext}
 use Rattle.cascade_theory.specs.Skew.{FourRecord, LineRecord, DrainedRecord, fourOut, fourNext, four, filled, lineOut, advanced, drained, ran}
 
 -- what a section makes of a number, and of itself
-pub record Went (f : Format) (s : Biquad) (x y : Float) (t : Biquad) : Type 0 where
+pub record Went (f : Format) (s : SectionRecord) (x y : Float) (t : SectionRecord) : Type 0 where
   pub out : y ≡ sectionOut f s x
   pub next : t ≡ sectionNext f s x
 
 module _ (f : Format) where
   -- ---- numbers through sections, by name
 
-  pub went : {s t : Biquad} {x y : Float} → (y ≡ sectionOut f s x) × (t ≡ sectionNext f s x) → Went f s x y t
+  pub went : {s t : SectionRecord} {x y : Float} → (y ≡ sectionOut f s x) × (t ≡ sectionNext f s x) → Went f s x y t
   went p = record { out = p .0; next = p .1 }
 
-  pub filled-is : {s0 s1 s2 s3 a0 a1 a2 b0 b1 c0 : Biquad} {x0 x1 x2 u0 u1 u2 v0 v1 w0 : Float} → Went f s0 x0 u0 a0 → Went f a0 x1 u1 a1 → Went f a1 x2 u2 a2 → Went f s1 u0 v0 b0 → Went f b0 u1 v1 b1
+  pub filled-is : {s0 s1 s2 s3 a0 a1 a2 b0 b1 c0 : SectionRecord} {x0 x1 x2 u0 u1 u2 v0 v1 w0 : Float} → Went f s0 x0 u0 a0 → Went f a0 x1 u1 a1 → Went f a1 x2 u2 a2 → Went f s1 u0 v0 b0 → Went f b0 u1 v1 b1
       → Went f s2 v0 w0 c0 → record { four = record { s0 = a2; s1 = b1; s2 = c0; s3 = s3 }; y0 = u2; y1 = v1; y2 = w0 } ≡ filled f (record { s0 = s0; s1 = s1; s2 = s2; s3 = s3 }) x0 x1 x2
   unfolding filled
   filled-is p0 p1 p2 q0 q1 r = rw (p2 .out, p2 .next, q1 .out, q1 .next, r .out, r .next, p1 .out, p1 .next, q0 .out, q0 .next, p0 .out, p0 .next)
 
-  pub advanced-is : {s0 s1 s2 s3 a b c d : Biquad} {x y0 y1 y2 u v w z : Float} → Went f s0 x u a → Went f s1 y0 v b → Went f s2 y1 w c → Went f s3 y2 z d
+  pub advanced-is : {s0 s1 s2 s3 a b c d : SectionRecord} {x y0 y1 y2 u v w z : Float} → Went f s0 x u a → Went f s1 y0 v b → Went f s2 y1 w c → Went f s3 y2 z d
       → record { four = record { s0 = a; s1 = b; s2 = c; s3 = d }; y0 = u; y1 = v; y2 = w } ≡ advanced f (record { four = record { s0 = s0; s1 = s1; s2 = s2; s3 = s3 }; y0 = y0; y1 = y1; y2 = y2 }) x
   unfolding advanced
   advanced-is p q r s = rw (p .out, p .next, q .out, q .next, r .out, r .next, s .next)
 
-  pub drained-is : {s0 s1 s2 s3 b c0 c1 d0 d1 d2 : Biquad} {y0 y1 y2 u v0 v1 w0 w1 w2 : Float} → Went f s1 y0 u b → Went f s2 y1 v0 c0 → Went f c0 u v1 c1 → Went f s3 y2 w0 d0 → Went f d0 v0 w1 d1
+  pub drained-is : {s0 s1 s2 s3 b c0 c1 d0 d1 d2 : SectionRecord} {y0 y1 y2 u v0 v1 w0 w1 w2 : Float} → Went f s1 y0 u b → Went f s2 y1 v0 c0 → Went f c0 u v1 c1 → Went f s3 y2 w0 d0 → Went f d0 v0 w1 d1
       → Went f d1 v1 w2 d2
       → record { four = record { s0 = s0; s1 = b; s2 = c1; s3 = d2 }; y0 = w0; y1 = w1; y2 = w2 } ≡ drained f (record { four = record { s0 = s0; s1 = s1; s2 = s2; s3 = s3 }; y0 = y0; y1 = y1; y2 = y2 })
   unfolding drained

@@ -9,21 +9,21 @@ use lib.Ieee.{Float, Format}
 use lib.Ieee.Scale.{finite}
 use borrow.Author.Tests.{le-leb, le-ltb}
 use Rattle.runs.specs.Runs.{Answer, clear, cloudedIn, written, notAllFinite, step, answers, after, block}
-use Rattle.cascade_theory.specs.Section.{Biquad}
-use Rattle.cascade_theory.specs.FirstOrder.{FirstPart}
+use Rattle.cascade_theory.specs.Section.{SectionRecord}
+use Rattle.cascade_theory.specs.FirstOrder.{FirstOrderRecord}
 use Rattle.cascade_theory.specs.Skew.{FourRecord, RanRecord, fourOut, fourNext, four, ran}
 use Rattle.cascade_theory.specs.Cascade.{CascadeRecord, checkCascade, clouding, value, moved, mark, next, cascade}
 use Rattle.cascade_theory.specs.Skewed.{listed, Skewable}
 
 -- a cascade of these sections alone, with this unused first-order part
-abbrev ofFour : FirstPart → FourRecord → CascadeRecord
+abbrev ofFour : FirstOrderRecord → FourRecord → CascadeRecord
 ofFour p c = record { sections = listed c; count = 4; first = p; hasFirst = false; clouded = false }
 
 not-or : (a b : Bool) → (not a || b) ≡ false → (a ≡ true) × (b ≡ false)
 not-or true b e = (refl, e)
 not-or false b e = absurd (true≢false e)
 
-module _ (f : Format) (p : FirstPart) where
+module _ (f : Format) (p : FirstOrderRecord) where
   step-four : (c : FourRecord) (x : Float) → finite x ≡ true → step (cascade f) (ofFour p c) x ≡ record { answer = clear (fourOut f c x); state = ofFour p (fourNext f c x) }
   unfolding step checkCascade value moved mark next clouding fourOut fourNext
   step-four c x h = rw h
@@ -59,7 +59,7 @@ module _ (f : Format) (p : FirstPart) where
       )
 
 -- whatever record has these sections
-pub block-skewed : (f : Format) (c : FourRecord) {ss : List Biquad} {n : ℕ} {p : FirstPart} {b d : Bool} (input output : List Float) {r : RanRecord} → listed c ≡ ss
+pub block-skewed : (f : Format) (c : FourRecord) {ss : List SectionRecord} {n : ℕ} {p : FirstOrderRecord} {b d : Bool} (input output : List Float) {r : RanRecord} → listed c ≡ ss
     → Skewable (record { sections = ss; count = n; first = p; hasFirst = b; clouded = d }) input → length input ≤ length output → r ≡ ran f c input output
     → record { refusal = 0; clouded = 0; state = record { sections = listed (r .four); count = n; first = p; hasFirst = b; clouded = d }; output = r .output }
     ≡ block (cascade f) (record { sections = ss; count = n; first = p; hasFirst = b; clouded = d }) input output

@@ -8,15 +8,15 @@ use lib.Dec.{ltb}
 use lib.ListN.{length, getD}
 use lib.Ieee.{Float, Format}
 use borrow.Author.Tests.{lt-ltb}
-use Rattle.cascade_theory.specs.Section.{Biquad, sectionOut, sectionNext}
+use Rattle.cascade_theory.specs.Section.{SectionRecord, sectionOut, sectionNext}
 use Rattle.cascade_theory.specs.Parts.{sectionsOut, sectionsNext}
 
 -- what a turn makes of a sample and of its section
-pub record Turned (f : Format) (used : Bool) (s : Biquad) (x y : Float) (t : Biquad) : Type 0 where
+pub record Turned (f : Format) (used : Bool) (s : SectionRecord) (x y : Float) (t : SectionRecord) : Type 0 where
   pub out : y ≡ cond used (sectionOut f s x) x
   pub next : t ≡ cond used (sectionNext f s x) s
 
-passed : (f : Format) (a b c d a′ b′ c′ d′ : Biquad) (n : ℕ) (x y₀ y₁ y₂ y₃ : Float) → Turned f (ltb 0 n) a x y₀ a′ → Turned f (ltb 1 n) b y₀ y₁ b′ → Turned f (ltb 2 n) c y₁ y₂ c′
+passed : (f : Format) (a b c d a′ b′ c′ d′ : SectionRecord) (n : ℕ) (x y₀ y₁ y₂ y₃ : Float) → Turned f (ltb 0 n) a x y₀ a′ → Turned f (ltb 1 n) b y₀ y₁ b′ → Turned f (ltb 2 n) c y₁ y₂ c′
     → Turned f (ltb 3 n) d y₂ y₃ d′ → (y₃ ≡ sectionsOut f n (a ∷ b ∷ c ∷ d ∷ []) x) × (a′ ∷ b′ ∷ c′ ∷ d′ ∷ [] ≡ sectionsNext f n (a ∷ b ∷ c ∷ d ∷ []) x)
 passed f a b c d a′ b′ c′ d′ zero x y₀ y₁ y₂ y₃ p q r s = (rw (s .out, r .out, q .out, p .out), rw (s .next, r .next, q .next, p .next))
 passed f a b c d a′ b′ c′ d′ (suc zero) x y₀ y₁ y₂ y₃ p q r s = (rw (s .out, r .out, q .out, p .out), rw (s .next, r .next, q .next, p .next))
@@ -40,7 +40,7 @@ four-places view (s₀ ∷ s₁ ∷ s₂ ∷ s₃ ∷ []) u l = refl
 four-places view (s₀ ∷ s₁ ∷ s₂ ∷ s₃ ∷ s₄ ∷ ss) u l = absurd (omega arith)
 
 -- whatever record the code has for a section
-pub four-turns : (f : Format) {A : Type 0} (view : A → Biquad) (ss : List A) (u : A) (n : ℕ) (x : Float) {y₀ y₁ y₂ y₃ : Float} {a b c d : A} → length ss ≡ 4
+pub four-turns : (f : Format) {A : Type 0} (view : A → SectionRecord) (ss : List A) (u : A) (n : ℕ) (x : Float) {y₀ y₁ y₂ y₃ : Float} {a b c d : A} → length ss ≡ 4
     → Turned f (ltb 0 n) (view (getD ss 0 u)) x y₀ (view a) → Turned f (ltb 1 n) (view (getD ss 1 u)) y₀ y₁ (view b) → Turned f (ltb 2 n) (view (getD ss 2 u)) y₁ y₂ (view c)
     → Turned f (ltb 3 n) (view (getD ss 3 u)) y₂ y₃ (view d)
     → (y₃ ≡ sectionsOut f n (map view ss) x) × (map view (a ∷ b ∷ c ∷ d ∷ []) ≡ sectionsNext f n (map view ss) x)

@@ -7,20 +7,20 @@ use lib.Ieee.{Float, Format}
 use lib.Ieee.Scale.{finite}
 use Rattle.runs.specs.Refusals.{BadCascade}
 use Rattle.runs.specs.Runs.{Filter}
-use Rattle.cascade_theory.specs.Section.{Biquad, blankBiquad, clearedBiquad}
-use Rattle.cascade_theory.specs.FirstOrder.{FirstPart, blankFirst, clearedFirst, firstOut, firstNext}
+use Rattle.cascade_theory.specs.Section.{SectionRecord, blankSection, clearedSection}
+use Rattle.cascade_theory.specs.FirstOrder.{FirstOrderRecord, blankFirst, clearedFirst, firstOut, firstNext}
 use Rattle.cascade_theory.specs.Parts.{sectionsOut, sectionsNext}
 
 -- four sections, a count, a first-order part with a flag, and a cloud flag
 pub record CascadeRecord : Type 0 where
-  pub sections : List Biquad
+  pub sections : List SectionRecord
   pub count : ℕ
-  pub first : FirstPart
+  pub first : FirstOrderRecord
   pub hasFirst : Bool
   pub clouded : Bool
 
 abbrev pub blankCascade : CascadeRecord
-blankCascade = record { sections = blankBiquad ∷ blankBiquad ∷ blankBiquad ∷ blankBiquad ∷ []; count = 0; first = blankFirst; hasFirst = false; clouded = false }
+blankCascade = record { sections = blankSection ∷ blankSection ∷ blankSection ∷ blankSection ∷ []; count = 0; first = blankFirst; hasFirst = false; clouded = false }
 
 -- 11 is given where there are more than 4 sections, or none and no first-order part
 unfoldable pub checkCascade : CascadeRecord → Bool
@@ -28,7 +28,7 @@ checkCascade c = leb (c .count) 4 && (ltb 0 (c .count) || c .hasFirst)
 
 -- reset sets all carried values to +0 and clears the cloud flag
 unfoldable pub clearedCascade : CascadeRecord → CascadeRecord
-clearedCascade c = record { sections = map clearedBiquad (c .sections); count = c .count; first = clearedFirst (c .first); hasFirst = c .hasFirst; clouded = false }
+clearedCascade c = record { sections = map clearedSection (c .sections); count = c .count; first = clearedFirst (c .first); hasFirst = c .hasFirst; clouded = false }
 
 -- the same parts with this cloud flag
 abbrev pub flagged : Bool → CascadeRecord → CascadeRecord

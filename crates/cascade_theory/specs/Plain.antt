@@ -5,8 +5,8 @@ use mathlib.Core.List.{List, [], _∷_, map, reverse}
 use lib.Ieee.{Float, Format}
 use Rattle.runs.specs.Runs.{plusZero, notAllFinite}
 use Rattle.runs.specs.Forgetting.{Plain, Call, Outcome, Forgets}
-use Rattle.cascade_theory.specs.Section.{Biquad, newBiquad, sectionOut, sectionNext}
-use Rattle.cascade_theory.specs.FirstOrder.{FirstPart, newFirst, firstOut, firstNext}
+use Rattle.cascade_theory.specs.Section.{SectionRecord, newSection, sectionOut, sectionNext}
+use Rattle.cascade_theory.specs.FirstOrder.{FirstOrderRecord, newFirst, firstOut, firstNext}
 use Rattle.cascade_theory.specs.Cascade.{CascadeRecord, cascade}
 
 -- ---- what it is fed of the starting record: the coefficients, the count and the first-order flag
@@ -29,10 +29,10 @@ pub record Coefficients : Type 0 where
   pub first : FirstCoefficients
   pub hasFirst : Bool
 
-abbrev pub sectionCoefficients : Biquad → SectionCoefficients
+abbrev pub sectionCoefficients : SectionRecord → SectionCoefficients
 sectionCoefficients s = record { b0 = s .b0; b1 = s .b1; b2 = s .b2; a1 = s .a1; a2 = s .a2 }
 
-abbrev pub firstCoefficients : FirstPart → FirstCoefficients
+abbrev pub firstCoefficients : FirstOrderRecord → FirstCoefficients
 firstCoefficients p = record { b0 = p .b0; b1 = p .b1; a1 = p .a1 }
 
 abbrev pub coefficientsOf : CascadeRecord → Coefficients
@@ -41,11 +41,11 @@ coefficientsOf c = record { sections = map sectionCoefficients (c .sections); co
 -- ---- the filter
 
 -- parts with these coefficients, every carried value starting at +0
-abbrev pub newSection : SectionCoefficients → Biquad
-newSection c = newBiquad (c .b0) (c .b1) (c .b2) (c .a1) (c .a2)
+abbrev pub sectionOf : SectionCoefficients → SectionRecord
+sectionOf c = newSection (c .b0) (c .b1) (c .b2) (c .a1) (c .a2)
 
-abbrev pub newPart : FirstCoefficients → FirstPart
-newPart c = newFirst (c .b0) (c .b1) (c .a1)
+abbrev pub firstOf : FirstCoefficients → FirstOrderRecord
+firstOf c = newFirst (c .b0) (c .b1) (c .a1)
 
 -- the last number of a list, and d of none
 unfoldable pub last : Float → List Float → Float
@@ -54,11 +54,11 @@ last d (x ∷ xs) = last x xs
 
 module _ (f : Format) where
   -- samples, oldest first, through one part
-  unfoldable pub passFirst : FirstPart → List Float → List Float
+  unfoldable pub passFirst : FirstOrderRecord → List Float → List Float
   passFirst p [] = []
   passFirst p (x ∷ xs) = firstOut f p x ∷ passFirst (firstNext f p x) xs
 
-  unfoldable pub passSection : Biquad → List Float → List Float
+  unfoldable pub passSection : SectionRecord → List Float → List Float
   passSection s [] = []
   passSection s (x ∷ xs) = sectionOut f s x ∷ passSection (sectionNext f s x) xs
 
@@ -66,11 +66,11 @@ module _ (f : Format) where
   unfoldable pub passSections : ℕ → List SectionCoefficients → List Float → List Float
   passSections zero cs xs = xs
   passSections (suc n) [] xs = xs
-  passSections (suc n) (c ∷ cs) xs = passSections n cs (passSection (newSection c) xs)
+  passSections (suc n) (c ∷ cs) xs = passSections n cs (passSection (sectionOf c) xs)
 
   -- first through the first-order part, if flagged
   unfoldable pub passAll : Coefficients → List Float → List Float
-  passAll c xs = passSections (c .count) (c .sections) (cond (c .hasFirst) (passFirst (newPart (c .first)) xs) xs)
+  passAll c xs = passSections (c .count) (c .sections) (cond (c .hasFirst) (passFirst (firstOf (c .first)) xs) xs)
 
   -- all kept samples pass, oldest first, and the last number out is the answer
   unfoldable pub plainValue : Coefficients → List Float → Float

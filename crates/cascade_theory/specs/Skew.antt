@@ -7,14 +7,14 @@ use lib.ListN.{length}
 use lib.Ieee.{Float, Format}
 use Rattle.runs.specs.Refusals.{Accepted}
 use Rattle.runs.specs.Runs.{Filter, answers, after, written}
-use Rattle.cascade_theory.specs.Section.{Biquad, clearedBiquad, sectionOut, sectionNext}
+use Rattle.cascade_theory.specs.Section.{SectionRecord, clearedSection, sectionOut, sectionNext}
 
 -- four sections, which a sample passes from s0 to s3
 pub record FourRecord : Type 0 where
-  pub s0 : Biquad
-  pub s1 : Biquad
-  pub s2 : Biquad
-  pub s3 : Biquad
+  pub s0 : SectionRecord
+  pub s1 : SectionRecord
+  pub s2 : SectionRecord
+  pub s3 : SectionRecord
 
 -- the same at work: each has taken one number fewer than the section before it, whose last answer waits for it
 pub record LineRecord : Type 0 where
@@ -37,7 +37,7 @@ pub record RanRecord : Type 0 where
   pub output : List Float
 
 abbrev pub clearedFour : FourRecord → FourRecord
-clearedFour c = record { s0 = clearedBiquad (c .s0); s1 = clearedBiquad (c .s1); s2 = clearedBiquad (c .s2); s3 = clearedBiquad (c .s3) }
+clearedFour c = record { s0 = clearedSection (c .s0); s1 = clearedSection (c .s1); s2 = clearedSection (c .s2); s3 = clearedSection (c .s3) }
 
 module _ (f : Format) where
   -- ---- one sample after the other

@@ -6,12 +6,12 @@ use mathlib.Core.List.{List, [], _∷_}
 use lib.ListN.{length}
 use lib.Ieee.{Float}
 use Rattle.runs.specs.Runs.{notAllFinite}
-use Rattle.cascade_theory.specs.Section.{Biquad}
+use Rattle.cascade_theory.specs.Section.{SectionRecord}
 use Rattle.cascade_theory.specs.Skew.{FourRecord}
 use Rattle.cascade_theory.specs.Cascade.{CascadeRecord}
 
 -- four sections as a cascade has them
-abbrev pub listed : FourRecord → List Biquad
+abbrev pub listed : FourRecord → List SectionRecord
 listed c = c .s0 ∷ c .s1 ∷ c .s2 ∷ c .s3 ∷ []
 
 -- four sections and nothing else in use, three samples or more, and no answer Clouded: none so far was, and every sample is finite

@@ -10,17 +10,17 @@ use Rattle.runs.specs.Forgetting.{Call, step, block, reset, Outcome, stepped, b
 use Rattle.cascade_theory.specs.Cascade.{cascade}
 use Rattle.cascade.specs.View.{cascadeView, updatedView, resetView, blockView}
 use Rattle.cascade.specs.declared.Cascade.{Cascade}
-use Rattle.cascade.specs.declared.Updated.{Updated}
-use Rattle.cascade.specs.declared.WasReset.{WasReset}
-use Rattle.cascade.specs.declared.Blocked.{Blocked}
+use Rattle.cascade.specs.declared.UpdateResult.{UpdateResult}
+use Rattle.cascade.specs.declared.ResetResult.{ResetResult}
+use Rattle.cascade.specs.declared.BlockResult.{BlockResult}
 use Rattle.fir_theory.specs.Fir.{fir}
 use Rattle.fir_theory.specs.Lent.{capacity}
 use Rattle.fir.specs.View.{tapsView}
 use Rattle.fir.specs.View as FirView
 use Rattle.fir.specs.declared.TapRecord.{TapRecord}
-use Rattle.fir.specs.declared.Updated.{Updated as FirUpdated}
-use Rattle.fir.specs.declared.WasReset.{WasReset as FirWasReset}
-use Rattle.fir.specs.declared.Blocked.{Blocked as FirBlocked}
+use Rattle.fir.specs.declared.UpdateResult.{UpdateResult as FirUpdateResult}
+use Rattle.fir.specs.declared.ResetResult.{ResetResult as FirResetResult}
+use Rattle.fir.specs.declared.BlockResult.{BlockResult as FirBlockResult}
 use Rattle.cascade_theory.specs.Plain.{CascadeForgets}
 use Rattle.fir_theory.specs.Plain.{FirForgets}
 use Rattle.c_layout.specs.Layout.{cascadeAt}
@@ -30,26 +30,26 @@ use Rattle.c_calls.specs.Lists.{CCalls}
 -- ---- the code. A premise of each call is the `ensures` of Cascade::update, ::block and ::reset, word for word.
 pub data CascadeCalls : Cascade → List Call → List Outcome → Type 0 where
   ended : (self : Cascade) → CascadeCalls self [] []
-  updateCalled : (self : Cascade) (x : Float) (r : Updated) (calls : List Call) (outcomes : List Outcome)
+  updateCalled : (self : Cascade) (x : Float) (r : UpdateResult) (calls : List Call) (outcomes : List Outcome)
       → updatedView r ≡ Runs.step (cascade binary64) (cascadeView self) x
       → CascadeCalls (r .cascade) calls outcomes → CascadeCalls self (step x ∷ calls) (stepped (answerView (r .answer)) ∷ outcomes)
-  blockCalled : (self : Cascade) (input output output′ : List Float) (r : Blocked) (calls : List Call) (outcomes : List Outcome)
+  blockCalled : (self : Cascade) (input output output′ : List Float) (r : BlockResult) (calls : List Call) (outcomes : List Outcome)
       → blockView r output′ ≡ Runs.block (cascade binary64) (cascadeView self) input output
       → CascadeCalls (r .cascade) calls outcomes → CascadeCalls self (block input output ∷ calls) (blocked (r .refusal) (r .clouded) output′ ∷ outcomes)
-  resetCalled : (self : Cascade) (r : WasReset) (calls : List Call) (outcomes : List Outcome)
+  resetCalled : (self : Cascade) (r : ResetResult) (calls : List Call) (outcomes : List Outcome)
       → resetView r ≡ Runs.reset (cascade binary64) (cascadeView self)
       → CascadeCalls (r .cascade) calls outcomes → CascadeCalls self (reset ∷ calls) (wasReset (r .refusal) ∷ outcomes)
 
 -- of TapRecord::update, ::block and ::reset
 pub data FirCalls : TapRecord → List Call → List Outcome → Type 0 where
   firEnded : (self : TapRecord) → FirCalls self [] []
-  firUpdateCalled : (self : TapRecord) (x : Float) (r : FirUpdated) (calls : List Call) (outcomes : List Outcome)
+  firUpdateCalled : (self : TapRecord) (x : Float) (r : FirUpdateResult) (calls : List Call) (outcomes : List Outcome)
       → FirView.updatedView r ≡ Runs.step (fir capacity binary64) (tapsView self) x
       → FirCalls (r .filter) calls outcomes → FirCalls self (step x ∷ calls) (stepped (answerView (r .answer)) ∷ outcomes)
-  firBlockCalled : (self : TapRecord) (input output output′ : List Float) (r : FirBlocked) (calls : List Call) (outcomes : List Outcome)
+  firBlockCalled : (self : TapRecord) (input output output′ : List Float) (r : FirBlockResult) (calls : List Call) (outcomes : List Outcome)
       → FirView.blockView r output′ ≡ Runs.block (fir capacity binary64) (tapsView self) input output
       → FirCalls (r .filter) calls outcomes → FirCalls self (block input output ∷ calls) (blocked (r .refusal) (r .clouded) output′ ∷ outcomes)
-  firResetCalled : (self : TapRecord) (r : FirWasReset) (calls : List Call) (outcomes : List Outcome)
+  firResetCalled : (self : TapRecord) (r : FirResetResult) (calls : List Call) (outcomes : List Outcome)
       → FirView.resetView r ≡ Runs.reset (fir capacity binary64) (tapsView self)
       → FirCalls (r .filter) calls outcomes → FirCalls self (reset ∷ calls) (wasReset (r .refusal) ∷ outcomes)
 

@@ -7,8 +7,8 @@ use lib.Ieee.{Float, nan, binary64, neg, toBits}
 use Rattle.scalar.specs.Operators.{_⊘_, nat}
 use Rattle.ieee.specs.Sqrt.{sqrtOf}
 use Rattle.runs.specs.Runs.{Answer, clear, clouded, refused, Block, step, block}
-use Rattle.cascade_theory.specs.Section.{Biquad, sectionOut, sectionNext}
-use Rattle.cascade_theory.specs.FirstOrder.{FirstPart, firstOut, firstNext}
+use Rattle.cascade_theory.specs.Section.{SectionRecord, sectionOut, sectionNext}
+use Rattle.cascade_theory.specs.FirstOrder.{FirstOrderRecord, firstOut, firstNext}
 use Rattle.design_poles.specs.Butterworth.{lpBiquad, hpBiquad, lpFirst, hpFirst}
 use Rattle.fir_theory.specs.Fir.{TapsRecord, fir, fromCoeffs}
 use Rattle.fir_theory.specs.Lent.{capacity}
@@ -20,18 +20,18 @@ use Rattle.design_fir.specs.declared.WindowType.{WindowType}
 abbrev pub patterns : List Float → List ℕ
 patterns xs = map (toBits binary64) xs
 
-abbrev pub firstCoefficients : FirstPart → List ℕ
+abbrev pub firstCoefficients : FirstOrderRecord → List ℕ
 firstCoefficients p = patterns (p .b0 ∷ p .b1 ∷ p .a1 ∷ [])
 
-abbrev pub coefficients : Biquad → List ℕ
+abbrev pub coefficients : SectionRecord → List ℕ
 coefficients s = patterns (s .b0 ∷ s .b1 ∷ s .b2 ∷ s .a1 ∷ s .a2 ∷ [])
 
 -- what a part answers to samples one after the other
-abbrev pub firstAnswers : FirstPart → List Float → List Float
+abbrev pub firstAnswers : FirstOrderRecord → List Float → List Float
 firstAnswers p [] = []
 firstAnswers p (x ∷ xs) = firstOut binary64 p x ∷ firstAnswers (firstNext binary64 p x) xs
 
-abbrev pub answers : Biquad → List Float → List Float
+abbrev pub answers : SectionRecord → List Float → List Float
 answers s [] = []
 answers s (x ∷ xs) = sectionOut binary64 s x ∷ answers (sectionNext binary64 s x) xs
 

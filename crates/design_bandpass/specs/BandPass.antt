@@ -5,16 +5,16 @@ use Rattle.ieee.specs.Sqrt.{sqrtOf}
 use Rattle.scalar.specs.Operators.{_⊕_, _⊖_, _⊗_, _⊘_}
 use Rattle.scalar.specs.Constants.{plusZero, one, two, half}
 use Rattle.scalar.specs.Sign.{absOf}
-use Rattle.cascade_theory.specs.Section.{Biquad, newBiquad}
+use Rattle.cascade_theory.specs.Section.{SectionRecord, newSection}
 
 -- two poles by their sum and product, with the bandwidth bw
-unfoldable pub bandBiquad : Float → Float → Float → Biquad
+unfoldable pub bandBiquad : Float → Float → Float → SectionRecord
 bandBiquad sum product bw =
     let a0 = (one ⊖ sum) ⊕ product in
-    newBiquad (bw ⊘ a0) plusZero (neg (bw ⊘ a0)) ((neg two ⊕ two ⊗ product) ⊘ a0) (((one ⊕ sum) ⊕ product) ⊘ a0)
+    newSection (bw ⊘ a0) plusZero (neg (bw ⊘ a0)) ((neg two ⊕ two ⊗ product) ⊘ a0) (((one ⊕ sum) ⊕ product) ⊘ a0)
 
 -- the pole pair σ ± jω
-unfoldable pub bpBiquad : Float → Float → Float → Biquad
+unfoldable pub bpBiquad : Float → Float → Float → SectionRecord
 bpBiquad sigma omega bw = bandBiquad (two ⊗ sigma) (sigma ⊗ sigma ⊕ omega ⊗ omega) bw
 
 -- the imaginary part of √D, from D's and √D's real part
@@ -23,8 +23,8 @@ imaginaryRoot dIm rootRe = cond (lt plusZero (absOf dIm)) (dIm ⊘ (two ⊗ root
 
 -- the two sections of a pole pair σ ± jω of the low-pass prototype: poles (bw/2)·s ± √D, D = ((bw/2)·s)² − ω0²
 pub record BiquadPair : Type 0 where
-  pub bq1 : Biquad
-  pub bq2 : Biquad
+  pub bq1 : SectionRecord
+  pub bq2 : SectionRecord
 
 unfoldable pub bpPair : Float → Float → Float → Float → BiquadPair
 bpPair sigma omega bw w0 =
@@ -39,7 +39,7 @@ bpPair sigma omega bw w0 =
     record { bq1 = bpBiquad (p ⊕ rootRe) (q ⊕ rootIm) bw; bq2 = bpBiquad (p ⊖ rootRe) (q ⊖ rootIm) bw }
 
 -- the section of the prototype's real pole: two real poles, or a pair
-unfoldable pub bpReal : Float → Float → Biquad
+unfoldable pub bpReal : Float → Float → SectionRecord
 bpReal bw w0 =
     let h = bw ⊗ half in
     let disc = h ⊗ h ⊖ w0 in

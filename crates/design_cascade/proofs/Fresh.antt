@@ -7,7 +7,7 @@ use native.Mathlib.Omega.{arith}
 use lib.Dec.{ltb, eqb}
 use lib.Ieee.{Float, le}
 use borrow.Author.Tests.{le-leb, lt-ltb, ltb-false, eq-eqb, eqb-true, eqb-false}
-use Rattle.cascade_theory.specs.Section.{Biquad, clearedBiquad}
+use Rattle.cascade_theory.specs.Section.{SectionRecord, clearedSection}
 use Rattle.cascade_theory.specs.FirstOrder.{blankFirst, clearedFirst}
 use Rattle.cascade_theory.specs.Cascade.{CascadeRecord, checkCascade, clearedCascade}
 use Rattle.cascade.specs.View.{FreshCascade}
@@ -29,28 +29,28 @@ use Rattle.design_cascade.specs.declared.prototype.Prototype.{Prototype}
 use Rattle.design_cascade.specs.declared.prototype.Prototype.the-variants.{ButterworthLow, ButterworthHigh, ChebyshevI, ChebyshevII}
 
 -- a section that carries +0, and a list of such
-abbrev Clear : Biquad → Type 0
-Clear s = clearedBiquad s ≡ s
+abbrev Clear : SectionRecord → Type 0
+Clear s = clearedSection s ≡ s
 
-abbrev AllClear : List Biquad → Type 0
+abbrev AllClear : List SectionRecord → Type 0
 AllClear [] = Unit {0}
 AllClear (s ∷ ss) = Clear s × AllClear ss
 
-all-clear : (ss : List Biquad) → AllClear ss → map clearedBiquad ss ≡ ss
+all-clear : (ss : List SectionRecord) → AllClear ss → map clearedSection ss ≡ ss
 all-clear [] a = refl
-all-clear (s ∷ ss) a = ap₂ (λ (x : Biquad) (xs : List Biquad). x ∷ xs) (a .0) (all-clear ss (a .1))
+all-clear (s ∷ ss) a = ap₂ (λ (x : SectionRecord) (xs : List SectionRecord). x ∷ xs) (a .0) (all-clear ss (a .1))
 
-append-clear : (xs ys : List Biquad) → AllClear xs → AllClear ys → AllClear (xs ++ ys)
+append-clear : (xs ys : List SectionRecord) → AllClear xs → AllClear ys → AllClear (xs ++ ys)
 append-clear [] ys a b = b
 append-clear (x ∷ xs) ys a b = (a .0, append-clear xs ys (a .1) b)
 
-padded-clear : (p : ℕ) (ss : List Biquad) → AllClear ss → AllClear (padded p ss)
+padded-clear : (p : ℕ) (ss : List SectionRecord) → AllClear ss → AllClear (padded p ss)
 unfolding padded
 padded-clear zero ss a = tt
 padded-clear (suc p) [] a = (refl, padded-clear p [] tt)
 padded-clear (suc p) (s ∷ ss) a = (a .0, padded-clear p ss (a .1))
 
-upTo-clear : (g : ℕ → Biquad) → ((m : ℕ) → Clear (g m)) → (n : ℕ) → AllClear (upTo g n)
+upTo-clear : (g : ℕ → SectionRecord) → ((m : ℕ) → Clear (g m)) → (n : ℕ) → AllClear (upTo g n)
 unfolding upTo
 upTo-clear g h zero = tt
 upTo-clear g h (suc n) = append-clear (upTo g n) (g n ∷ []) (upTo-clear g h n) (h n, tt)
@@ -132,7 +132,7 @@ real-clear : (bw w0 : Float) → Clear (bpReal bw w0)
 unfolding bpReal bpBiquad
 real-clear bw w0 = either (le plusZero (bw ⊗ half ⊗ (bw ⊗ half) ⊖ w0)) _ _ (band-clear _ _ _) (band-clear _ _ _)
   where
-    either : (b : Bool) (x y : Biquad) → Clear x → Clear y → Clear (cond b x y)
+    either : (b : Bool) (x y : SectionRecord) → Clear x → Clear y → Clear (cond b x y)
     either true x y u v = u
     either false x y u v = v
 

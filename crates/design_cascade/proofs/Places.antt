@@ -6,7 +6,7 @@ use native.Mathlib.Numerals.{add-one}
 use native.Mathlib.Omega.{arith}
 use lib.ListN.{length, set, length-append}
 use lib.Ieee.{Float}
-use Rattle.cascade_theory.specs.Section.{Biquad, blankBiquad}
+use Rattle.cascade_theory.specs.Section.{SectionRecord, blankSection}
 use Rattle.cascade_theory.proofs.Loops.{map-set}
 use Rattle.design_checks.specs.Lists.{upTo}
 use Rattle.design_checks.proofs.Lists.{upTo-length}
@@ -14,34 +14,34 @@ use Rattle.design_cascade.specs.Design.{padded}
 use Rattle.design_cascade.specs.BandPass.{bpUpTo, bpPairOf}
 
 -- the next section goes to the first blank place
-padded-next : (p : ℕ) (ss : List Biquad) (s : Biquad) → length ss < p → set (padded p ss) (length ss) s ≡ padded p (ss ++ s ∷ [])
+padded-next : (p : ℕ) (ss : List SectionRecord) (s : SectionRecord) → length ss < p → set (padded p ss) (length ss) s ≡ padded p (ss ++ s ∷ [])
 unfolding padded
 padded-next zero ss s h = absurd (omega arith)
 padded-next (suc p) [] s h = refl
-padded-next (suc p) (t ∷ ss) s h = ap (λ (l : List Biquad). t ∷ l) (padded-next p ss s (omega arith))
+padded-next (suc p) (t ∷ ss) s h = ap (λ (l : List SectionRecord). t ∷ l) (padded-next p ss s (omega arith))
 
-pub place : {A : Type 0} (view : A → Biquad) (kept : List A) (p i : ℕ) (ss : List Biquad) (a : A) (s : Biquad)
+pub place : {A : Type 0} (view : A → SectionRecord) (kept : List A) (p i : ℕ) (ss : List SectionRecord) (a : A) (s : SectionRecord)
     → map view kept ≡ padded p ss → i ≡ length ss → i < p → view a ≡ s → map view (set kept i a) ≡ padded p (ss ++ s ∷ [])
 place view kept p i ss a s e n h v =
     map-set view kept i a
-    ∙ ap (λ (l : List Biquad). set l i (view a)) e
-    ∙ ap (λ (b : Biquad). set (padded p ss) i b) v
+    ∙ ap (λ (l : List SectionRecord). set l i (view a)) e
+    ∙ ap (λ (b : SectionRecord). set (padded p ss) i b) v
     ∙ ap (λ (k : ℕ). set (padded p ss) k s) n
     ∙ padded-next p ss s (omega (arith, n))
 
-pub no-places : blankBiquad ∷ blankBiquad ∷ blankBiquad ∷ blankBiquad ∷ [] ≡ padded 4 []
+pub no-places : blankSection ∷ blankSection ∷ blankSection ∷ blankSection ∷ [] ≡ padded 4 []
 unfolding padded
 no-places = refl
 
 -- ---- one section a turn
-pub upTo-turn : {A : Type 0} (view : A → Biquad) (kept : List A) (g : ℕ → Biquad) (m : ℕ) (a : A)
+pub upTo-turn : {A : Type 0} (view : A → SectionRecord) (kept : List A) (g : ℕ → SectionRecord) (m : ℕ) (a : A)
     → map view kept ≡ padded 4 (upTo g m) → m < 4 → view a ≡ g m → map view (set kept m a) ≡ padded 4 (upTo g (m + 1))
 upTo-turn view kept g m a e h v = rw (add-one) (place view kept 4 m (upTo g m) a (g m) e (sym (upTo-length g m)) h v ∙ ap (padded 4) (more m))
   where
     more : (m : ℕ) → upTo g m ++ g m ∷ [] ≡ upTo g (suc m)
     more m = unfold upTo in refl
 
-pub upTo-none : (g : ℕ → Biquad) → blankBiquad ∷ blankBiquad ∷ blankBiquad ∷ blankBiquad ∷ [] ≡ padded 4 (upTo g 0)
+pub upTo-none : (g : ℕ → SectionRecord) → blankSection ∷ blankSection ∷ blankSection ∷ blankSection ∷ [] ≡ padded 4 (upTo g 0)
 unfolding upTo
 upTo-none g = no-places
 
@@ -52,11 +52,11 @@ module _ (n : ℕ) (bw w0 : Float) where
   band-length zero = refl
   band-length (suc m) = length-append (bpUpTo n bw w0 m) (bpPairOf n bw w0 m .bq1 ∷ bpPairOf n bw w0 m .bq2 ∷ []) ∙ ap (λ (k : ℕ). k + 2) (band-length m) ∙ (omega arith)
 
-  pub band-none : blankBiquad ∷ blankBiquad ∷ blankBiquad ∷ blankBiquad ∷ [] ≡ padded 4 (bpUpTo n bw w0 0)
+  pub band-none : blankSection ∷ blankSection ∷ blankSection ∷ blankSection ∷ [] ≡ padded 4 (bpUpTo n bw w0 0)
   unfolding bpUpTo
   band-none = no-places
 
-  pub band-turn : {A : Type 0} (view : A → Biquad) (kept : List A) (m : ℕ) (a b : A) → map view kept ≡ padded 4 (bpUpTo n bw w0 m) → m < 2
+  pub band-turn : {A : Type 0} (view : A → SectionRecord) (kept : List A) (m : ℕ) (a b : A) → map view kept ≡ padded 4 (bpUpTo n bw w0 m) → m < 2
       → view a ≡ bpPairOf n bw w0 m .bq1 → view b ≡ bpPairOf n bw w0 m .bq2 → map view (set (set kept (2 * m) a) (2 * m + 1) b) ≡ padded 4 (bpUpTo n bw w0 (m + 1))
   band-turn view kept m a b e h u v =
       let xs = bpUpTo n bw w0 m in

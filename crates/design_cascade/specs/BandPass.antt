@@ -6,7 +6,7 @@ use lib.Dec.{eqb}
 use lib.Ieee.{Float}
 use Rattle.scalar.specs.Operators.{_⊖_, _⊗_}
 use Rattle.elementary.specs.Trigonometric.{sinOf, cosOf}
-use Rattle.cascade_theory.specs.Section.{Biquad}
+use Rattle.cascade_theory.specs.Section.{SectionRecord}
 use Rattle.cascade_theory.specs.FirstOrder.{blankFirst}
 use Rattle.cascade_theory.specs.Cascade.{CascadeRecord}
 use Rattle.design_bandpass.specs.BandPass.{BiquadPair, bpPair, bpReal}
@@ -18,11 +18,11 @@ use Rattle.design_cascade.specs.Butterworth.{warped, angleOf}
 unfoldable pub bpPairOf : ℕ → Float → Float → ℕ → BiquadPair
 bpPairOf n bw w0 m = bpPair (cosOf (angleOf n m)) (sinOf (angleOf n m)) bw w0
 
-unfoldable pub bpUpTo : ℕ → Float → Float → ℕ → List Biquad
+unfoldable pub bpUpTo : ℕ → Float → Float → ℕ → List SectionRecord
 bpUpTo n bw w0 zero = []
 bpUpTo n bw w0 (suc m) = bpUpTo n bw w0 m ++ bpPairOf n bw w0 m .bq1 ∷ bpPairOf n bw w0 m .bq2 ∷ []
 
-unfoldable pub bpSections : ℕ → Float → Float → List Biquad
+unfoldable pub bpSections : ℕ → Float → Float → List SectionRecord
 bpSections n bw w0 = cond (eqb (n % 2) 0) (bpUpTo n bw w0 (n / 2)) (bpUpTo n bw w0 (n / 2) ++ bpReal bw w0 ∷ [])
 
 -- bandwidth ωh − ωl, and ω0² = ωl × ωh

@@ -8,7 +8,7 @@ use Rattle.scalar.specs.Sign.{absOf}
 use Rattle.elementary.specs.Trigonometric.{sinOf, cosOf}
 use Rattle.elementary.specs.Exponential.{pow10Of}
 use Rattle.hyperbolic.specs.Hyperbolic.{sinhOf, coshOf, arcsinhOf}
-use Rattle.cascade_theory.specs.Section.{Biquad}
+use Rattle.cascade_theory.specs.Section.{SectionRecord}
 use Rattle.design_poles.specs.Chebyshev.{cheb1Biquad, cheb2Biquad}
 use Rattle.design_cascade.specs.declared.prototype.Prototype.{Prototype}
 use Rattle.design_cascade.specs.declared.prototype.Prototype.the-variants.{ChebyshevI, ChebyshevII}
@@ -31,13 +31,13 @@ poleOf n m sinhA coshA =
     let theta = thetaOf n m in
     record { sigma = neg sinhA ⊗ sinOf theta; omega = coshA ⊗ cosOf theta; cosTheta = cosOf theta }
 
-unfoldable pub cheb1Pair : ℕ → ℕ → Float → Float → Float → Biquad
+unfoldable pub cheb1Pair : ℕ → ℕ → Float → Float → Float → SectionRecord
 cheb1Pair n m sinhA coshA k =
     let p = poleOf n m sinhA coshA in
     cheb1Biquad (p .sigma) (p .omega) k
 
 -- type II: the inversion σ/|s|², (−ω)/|s|², and the zero 1/|cos θ|
-unfoldable pub cheb2Pair : ℕ → ℕ → Float → Float → Float → Biquad
+unfoldable pub cheb2Pair : ℕ → ℕ → Float → Float → Float → SectionRecord
 cheb2Pair n m sinhA coshA k =
     let p = poleOf n m sinhA coshA in
     let mag = p .sigma ⊗ p .sigma ⊕ p .omega ⊗ p .omega in

@@ -4,7 +4,7 @@ use mathlib.Core.Bool.{cond}
 use mathlib.Core.List.{List, [], _∷_}
 use lib.Dec.{eqb}
 use Rattle.runs.specs.Refusals.{Accepted}
-use Rattle.cascade_theory.specs.Section.{Biquad, blankBiquad}
+use Rattle.cascade_theory.specs.Section.{SectionRecord, blankSection}
 use Rattle.cascade_theory.specs.Cascade.{CascadeRecord, blankCascade}
 
 pub record DesignRecord : Type 0 where
@@ -23,7 +23,7 @@ abbrev pub unlessRefused : ℕ → CascadeRecord → DesignRecord
 unlessRefused n c = cond (eqb n Accepted) (accepted c) (refusedDesign n)
 
 -- sections in the first of p places, and blank ones behind them
-unfoldable pub padded : ℕ → List Biquad → List Biquad
+unfoldable pub padded : ℕ → List SectionRecord → List SectionRecord
 padded zero ss = []
-padded (suc p) [] = blankBiquad ∷ padded p []
+padded (suc p) [] = blankSection ∷ padded p []
 padded (suc p) (s ∷ ss) = s ∷ padded p ss

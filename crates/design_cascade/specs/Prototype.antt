@@ -5,8 +5,8 @@ use lib.Dec.{eqb}
 use lib.Ieee.{neg}
 use Rattle.scalar.specs.Operators.{_⊘_}
 use Rattle.scalar.specs.Constants.{one}
-use Rattle.cascade_theory.specs.Section.{Biquad}
-use Rattle.cascade_theory.specs.FirstOrder.{FirstPart, blankFirst}
+use Rattle.cascade_theory.specs.Section.{SectionRecord}
+use Rattle.cascade_theory.specs.FirstOrder.{FirstOrderRecord, blankFirst}
 use Rattle.cascade_theory.specs.Cascade.{CascadeRecord}
 use Rattle.design_checks.specs.Lists.{upTo}
 use Rattle.design_cascade.specs.Design.{padded}
@@ -18,21 +18,21 @@ use Rattle.design_cascade.specs.declared.prototype.Prototype.{Prototype}
 use Rattle.design_cascade.specs.declared.prototype.Prototype.the-variants.{ButterworthLow, ButterworthHigh, ChebyshevI, ChebyshevII}
 
 -- the section of pair m of order n
-abbrev pub pairOf : Prototype → ℕ → ℕ → Biquad
+abbrev pub pairOf : Prototype → ℕ → ℕ → SectionRecord
 pairOf (ButterworthLow k) n m = lpPair n m k
 pairOf (ButterworthHigh k) n m = hpPair n m k
 pairOf (ChebyshevI sinhA coshA k) n m = cheb1Pair n m sinhA coshA k
 pairOf (ChebyshevII sinhA coshA k) n m = cheb2Pair n m sinhA coshA k
 
 -- the part of the real pole: of type I −sinh a, of type II (−1)/sinh a
-abbrev pub realPart : Prototype → FirstPart
+abbrev pub realPart : Prototype → FirstOrderRecord
 realPart (ButterworthLow k) = lpFirst k
 realPart (ButterworthHigh k) = hpFirst k
 realPart (ChebyshevI sinhA coshA k) = chebFirst (neg sinhA) k
 realPart (ChebyshevII sinhA coshA k) = chebFirst (neg one ⊘ sinhA) k
 
 -- an odd order has it
-unfoldable pub firstOf : Prototype → ℕ → FirstPart
+unfoldable pub firstOf : Prototype → ℕ → FirstOrderRecord
 firstOf p n = cond (eqb (n % 2) 0) blankFirst (realPart p)
 
 unfoldable pub prototypeCascade : Prototype → ℕ → CascadeRecord

@@ -13,7 +13,7 @@ ghost use Rattle.design_cascade.specs.BandPass.{bpPairOf, bpUpTo, bpSect
 ghost use Rattle.design_cascade.specs.View.{designView};
 use super::prototype::Prototype;
 use super::prototype::design_from_prototype;
-use super::returned::Design;
+use super::returned::CascadeDesignResult;
 use super::returned::refused;
 use cascade::Cascade;
 use design_bandpass::SectionPair;
@@ -61,7 +61,7 @@ pub(crate) fn hp_section(order: usize, m: usize, k: f64) -> Section
 }
 
 // A low pass of order 1 to 8.
-pub fn design_butterworth_lp(order: usize, cutoff: f64, sample_rate: f64) -> Design
+pub fn design_butterworth_lp(order: usize, cutoff: f64, sample_rate: f64) -> CascadeDesignResult
     ensures { λ r. ⌜ designView r ≡ butterworthLp order cutoff «sample_rate» ⌝ }
 {
     let refusal = validate_params(cutoff, sample_rate, order);
@@ -73,7 +73,7 @@ pub fn design_butterworth_lp(order: usize, cutoff: f64, sample_rate: f64) -> Des
 }
 
 // A high pass of order 1 to 8.
-pub fn design_butterworth_hp(order: usize, cutoff: f64, sample_rate: f64) -> Design
+pub fn design_butterworth_hp(order: usize, cutoff: f64, sample_rate: f64) -> CascadeDesignResult
     ensures { λ r. ⌜ designView r ≡ butterworthHp order cutoff «sample_rate» ⌝ }
 {
     let refusal = validate_params(cutoff, sample_rate, order);
@@ -141,7 +141,7 @@ fn bp_cascade(order: usize, omega_l: f64, omega_h: f64) -> Cascade
 }
 
 // A band pass of order 1 to 4: as many sections.
-pub fn design_butterworth_bp(order: usize, low: f64, high: f64, sample_rate: f64) -> Design
+pub fn design_butterworth_bp(order: usize, low: f64, high: f64, sample_rate: f64) -> CascadeDesignResult
     ensures { λ r. ⌜ designView r ≡ butterworthBp order low high «sample_rate» ⌝ }
 {
     let refusal = validate_band(low, high, sample_rate, order);
@@ -150,7 +150,7 @@ pub fn design_butterworth_bp(order: usize, low: f64, high: f64, sample_rate: f64
     }
     let omega_l = warp(low, sample_rate);
     let omega_h = warp(high, sample_rate);
-    Design {
+    CascadeDesignResult {
         refusal: 0,
         cascade: bp_cascade(order, omega_l, omega_h),
     }

@@ -9,4 +9,4 @@ pub use butterworth::design_butterworth_hp;
 pub use butterworth::design_butterworth_lp;
 pub use chebyshev::design_chebyshev1_lp;
 pub use chebyshev::design_chebyshev2_lp;
-pub use returned::Design;
+pub use returned::CascadeDesignResult;

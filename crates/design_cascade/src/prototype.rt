@@ -11,7 +11,7 @@ use super::butterworth::hp_section;
 use super::butterworth::lp_section;
 use super::chebyshev::cheb1_section;
 use super::chebyshev::cheb2_section;
-use super::returned::Design;
+use super::returned::CascadeDesignResult;
 use cascade::Cascade;
 use sections::FirstOrder;
 use sections::Section;
@@ -82,12 +82,12 @@ fn first_from_pole(prototype: Prototype, order: usize) -> FirstOrder
 }
 
 // The accepted design of this prototype.
-pub(crate) fn design_from_prototype(prototype: Prototype, order: usize) -> Design
+pub(crate) fn design_from_prototype(prototype: Prototype, order: usize) -> CascadeDesignResult
     requires { ⌜ 0 < order ⌝ ∗ ⌜ order ≤ 8 ⌝ }
     ensures { λ r. ⌜ designView r ≡ accepted (prototypeCascade prototype order) ⌝ }
 {
     let sections = sections_from_pairs(prototype, order);
-    Design {
+    CascadeDesignResult {
         refusal: 0,
         cascade: Cascade {
             sections,

@@ -5,15 +5,15 @@ ghost use Rattle.design_cascade.specs.View.{designView};
 use cascade::Cascade;
 
 // A design: 0 and the cascade, or the refusal number and the blank cascade.
-pub struct Design {
+pub struct CascadeDesignResult {
     pub refusal: u8,
     pub cascade: Cascade,
 }
 
-pub(crate) fn refused(refusal: u8) -> Design
+pub(crate) fn refused(refusal: u8) -> CascadeDesignResult
     ensures { λ r. ⌜ designView r ≡ refusedDesign refusal ⌝ }
 {
-    Design {
+    CascadeDesignResult {
         refusal,
         cascade: Cascade::blank(),
     }

@@ -10,7 +10,7 @@ ghost use Rattle.fir.specs.View.{madeView};
 ghost use Rattle.design_checks.specs.Lists.{upTo};
 ghost use Rattle.design_fir.specs.Fir.{codeOf, weightOf, sincOf, tapOf, totalFrom, normalisedBy, firLp};
 use design_checks::validate_fir;
-use fir::Made;
+use fir::FirDesignResult;
 use fir::TapRecord;
 use scalar::PI;
 
@@ -127,20 +127,20 @@ fn normalised(coeffs: [f64; TapRecord::MAX_TAPS], n: usize) -> [f64; TapRecord::
 }
 
 // A low pass of 1 to 64 taps, its cutoff a share of the rate.
-pub fn design_fir_lp(taps: usize, cutoff: f64, window: WindowType) -> Made
+pub fn design_fir_lp(taps: usize, cutoff: f64, window: WindowType) -> FirDesignResult
     ensures { λ r. ⌜ madeView r ≡ firLp taps cutoff window ⌝ }
 {
     let refusal = validate_fir(taps, cutoff);
     let blank = TapRecord::blank();
     if refusal != 0 {
-        return Made {
+        return FirDesignResult {
             refusal,
             filter: blank,
         };
     }
     let samples = blank.samples;
     let coeffs = normalised(windowed(window, taps, cutoff), taps);
-    Made {
+    FirDesignResult {
         refusal: 0,
         filter: TapRecord {
             taps: coeffs,

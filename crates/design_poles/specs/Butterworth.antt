@@ -2,8 +2,8 @@
 use lib.Ieee.{Float, neg}
 use Rattle.scalar.specs.Operators.{_⊕_, _⊖_, _⊗_, _⊘_}
 use Rattle.scalar.specs.Constants.{one, two}
-use Rattle.cascade_theory.specs.Section.{Biquad, newBiquad}
-use Rattle.cascade_theory.specs.FirstOrder.{FirstPart, newFirst}
+use Rattle.cascade_theory.specs.Section.{SectionRecord, newSection}
+use Rattle.cascade_theory.specs.FirstOrder.{FirstOrderRecord, newFirst}
 
 -- ---- a pole pair σ ± jω
 -- the denominator: a0, and a1 and a2 divided by it
@@ -19,24 +19,24 @@ denominatorOf sigma omega k =
     let a0 = (one ⊖ (two ⊗ sigma) ⊗ k) ⊕ p ⊗ kk in
     record { a0 = a0; a1 = (two ⊗ (p ⊗ kk ⊖ one)) ⊘ a0; a2 = ((one ⊕ (two ⊗ sigma) ⊗ k) ⊕ p ⊗ kk) ⊘ a0 }
 
-unfoldable pub lpBiquad : Float → Float → Float → Biquad
+unfoldable pub lpBiquad : Float → Float → Float → SectionRecord
 lpBiquad sigma omega k =
     let d = denominatorOf sigma omega k in
     let b = (k ⊗ k) ⊘ d .a0 in
-    newBiquad b (two ⊗ b) b (d .a1) (d .a2)
+    newSection b (two ⊗ b) b (d .a1) (d .a2)
 
-unfoldable pub hpBiquad : Float → Float → Float → Biquad
+unfoldable pub hpBiquad : Float → Float → Float → SectionRecord
 hpBiquad sigma omega k =
     let d = denominatorOf sigma omega k in
-    newBiquad (one ⊘ d .a0) (neg two ⊘ d .a0) (one ⊘ d .a0) (d .a1) (d .a2)
+    newSection (one ⊘ d .a0) (neg two ⊘ d .a0) (one ⊘ d .a0) (d .a1) (d .a2)
 
 -- ---- the real pole
-unfoldable pub lpFirst : Float → FirstPart
+unfoldable pub lpFirst : Float → FirstOrderRecord
 lpFirst k =
     let inv = one ⊘ (k ⊕ one) in
     newFirst (k ⊗ inv) (k ⊗ inv) ((k ⊖ one) ⊗ inv)
 
-unfoldable pub hpFirst : Float → FirstPart
+unfoldable pub hpFirst : Float → FirstOrderRecord
 hpFirst k =
     let inv = one ⊘ (k ⊕ one) in
     newFirst inv (neg inv) ((k ⊖ one) ⊗ inv)

@@ -2,7 +2,7 @@
 use Rattle.cascade.specs.View.{cascadeView}
 use Rattle.fir.specs.View.{tapsView}
 use Rattle.design_request.specs.Request.{DesignedRecord}
-use Rattle.design_request.specs.declared.Designed.{Designed}
+use Rattle.design_request.specs.declared.DesignResult.{DesignResult}
 
-abbrev pub designedView : Designed → DesignedRecord
+abbrev pub designedView : DesignResult → DesignedRecord
 designedView d = record { refusal = d .refusal; cascade = cascadeView (d .cascade); filter = tapsView (d .filter) }

@@ -5,7 +5,7 @@ ghost use Rattle.design_cascade.specs.View.{designView};
 ghost use Rattle.design_request.specs.Request.{checkRequest, ofCascade, ofTaps, designOf};
 ghost use Rattle.design_request.specs.View.{designedView};
 use cascade::Cascade;
-use design_cascade::Design;
+use design_cascade::CascadeDesignResult;
 use design_cascade::design_butterworth_bp;
 use design_cascade::design_butterworth_hp;
 use design_cascade::design_butterworth_lp;
@@ -17,7 +17,7 @@ use design_checks::validate_fir;
 use design_checks::validate_params;
 use design_fir::WindowType;
 use design_fir::design_fir_lp;
-use fir::Made;
+use fir::FirDesignResult;
 use fir::TapRecord;
 
 // What may be asked for. A FIR's cutoff is a share of the rate.
@@ -58,7 +58,7 @@ pub enum DesignRequest {
 }
 
 // A design of either kind: 0 or the refusal number, and both records; the one not asked for is blank.
-pub struct Designed {
+pub struct DesignResult {
     pub refusal: u8,
     pub cascade: Cascade,
     pub filter: TapRecord,
@@ -106,11 +106,11 @@ pub fn check_request(request: DesignRequest) -> u8
 }
 
 // With a blank tap record.
-fn of_cascade(d: Design) -> Designed
+fn of_cascade(d: CascadeDesignResult) -> DesignResult
     ensures { λ r. ⌜ designedView r ≡ ofCascade (designView d) ⌝ }
 {
     let cascade = d.cascade;
-    Designed {
+    DesignResult {
         refusal: d.refusal,
         cascade,
         filter: TapRecord::blank(),
@@ -118,11 +118,11 @@ fn of_cascade(d: Design) -> Designed
 }
 
 // With a blank cascade.
-fn of_taps(m: Made) -> Designed
+fn of_taps(m: FirDesignResult) -> DesignResult
     ensures { λ r. ⌜ designedView r ≡ ofTaps (madeView m) ⌝ }
 {
     let filter = m.filter;
-    Designed {
+    DesignResult {
         refusal: m.refusal,
         cascade: Cascade::blank(),
         filter,
@@ -130,7 +130,7 @@ fn of_taps(m: Made) -> Designed
 }
 
 // The design that is asked for.
-pub fn design(request: DesignRequest) -> Designed
+pub fn design(request: DesignRequest) -> DesignResult
     ensures { λ r. ⌜ designedView r ≡ designOf request ⌝ }
 {
     match request {

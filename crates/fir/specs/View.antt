@@ -6,25 +6,25 @@ use Rattle.runs.specs.View.{answerView}
 use Rattle.fir_theory.specs.Fir.{TapsRecord, fir, Made as MadeRecord}
 use Rattle.fir_theory.specs.Lent.{capacity}
 use Rattle.fir.specs.declared.TapRecord.{TapRecord}
-use Rattle.fir.specs.declared.Updated.{Updated}
-use Rattle.fir.specs.declared.WasReset.{WasReset}
-use Rattle.fir.specs.declared.Blocked.{Blocked}
+use Rattle.fir.specs.declared.UpdateResult.{UpdateResult}
+use Rattle.fir.specs.declared.ResetResult.{ResetResult}
+use Rattle.fir.specs.declared.BlockResult.{BlockResult}
 use Rattle.fir.specs.declared.Made.{Made}
 
 abbrev pub tapsView : TapRecord → TapsRecord
 tapsView r = record { taps = r .taps; samples = r .samples; size = r .length; held = r .held; window = r .window }
 
-abbrev pub updatedView : Updated → Step TapsRecord
+abbrev pub updatedView : UpdateResult → Step TapsRecord
 updatedView r = record { answer = answerView (r .answer); state = tapsView (r .filter) }
 
-abbrev pub resetView : WasReset → Reset TapsRecord
+abbrev pub resetView : ResetResult → Reset TapsRecord
 resetView r = record { refusal = r .refusal; state = tapsView (r .filter) }
 
 abbrev pub madeView : Made → MadeRecord
 madeView m = record { refusal = m .refusal; filter = tapsView (m .filter) }
 
 -- with the output after it
-abbrev pub blockView : Blocked → List Float → Block TapsRecord
+abbrev pub blockView : BlockResult → List Float → Block TapsRecord
 blockView r output = record { refusal = r .refusal; clouded = r .clouded; state = tapsView (r .filter); output = output }
 
 -- a fresh record at f64 and the code's capacity

@@ -19,26 +19,26 @@ pub struct TapRecord {
 }
 
 // What `update` returns.
-pub struct Updated {
+pub struct UpdateResult {
     pub filter: TapRecord,
     pub answer: Answer,
 }
 
 // What `reset` returns: 0 or the refusal number, and the record.
-pub struct WasReset {
+pub struct ResetResult {
     pub filter: TapRecord,
     pub refusal: u8,
 }
 
 // What `block` returns: 0 or the refusal number, how many answers were Clouded, and the record.
-pub struct Blocked {
+pub struct BlockResult {
     pub filter: TapRecord,
     pub refusal: u8,
     pub clouded: usize,
 }
 
 // What ready-made taps return, and a design: 0 or the refusal number, and the record.
-pub struct Made {
+pub struct FirDesignResult {
     pub filter: TapRecord,
     pub refusal: u8,
 }
@@ -72,20 +72,20 @@ impl TapRecord {
     }
 
     // A record of taps given ready-made. None or more than 64 are refused by 1.
-    pub fn from_coeffs(coeffs: &[f64]) -> Made
+    pub fn from_coeffs(coeffs: &[f64]) -> FirDesignResult
         ensures { λ r. ⌜ madeView r ≡ fromCoeffs capacity (now (coeffs .entry)) ⌝ }
     {
         let length = coeffs.len();
         if length < 1 {
             let filter = TapRecord::blank();
-            return Made {
+            return FirDesignResult {
                 refusal: runs::INVALID_ORDER,
                 filter,
             };
         }
         if length > TapRecord::MAX_TAPS {
             let filter = TapRecord::blank();
-            return Made {
+            return FirDesignResult {
                 refusal: runs::INVALID_ORDER,
                 filter,
             };
@@ -97,7 +97,7 @@ impl TapRecord {
             taps[i] = coeffs[i];
             i += 1;
         }
-        Made {
+        FirDesignResult {
             refusal: 0,
             filter: TapRecord {
                 taps,
@@ -110,7 +110,7 @@ impl TapRecord {
     }
 
     // One sample: its answer, and the record after it.
-    pub fn update(self, x: f64) -> Updated
+    pub fn update(self, x: f64) -> UpdateResult
         ensures { λ r. ⌜ updatedView r ≡ step (fir capacity binary64) (tapsView self) x ⌝ }
     {
         let taps = self.taps;
@@ -125,7 +125,7 @@ impl TapRecord {
             x,
         );
         let answer = s.answer;
-        Updated {
+        UpdateResult {
             filter: TapRecord {
                 taps,
                 samples,
@@ -138,14 +138,14 @@ impl TapRecord {
     }
 
     // Makes all sample places +0 and the held count 0.
-    pub fn reset(self) -> WasReset
+    pub fn reset(self) -> ResetResult
         ensures { λ r. ⌜ resetView r ≡ reset (fir capacity binary64) (tapsView self) ⌝ }
     {
         let taps = self.taps;
         let mut samples = self.samples;
         let window = self.window;
         let s = fir_step::reset(&taps, &mut samples, self.length, self.held, window as usize);
-        WasReset {
+        ResetResult {
             filter: TapRecord {
                 taps,
                 samples,
@@ -159,7 +159,7 @@ impl TapRecord {
 
     // A block of samples, each as `update` has it: the answers in the first places of the output, later places left. An
     // output shorter than the input is refused by 5.
-    pub fn block(self, input: &[f64], output: &mut [f64]) -> Blocked
+    pub fn block(self, input: &[f64], output: &mut [f64]) -> BlockResult
         ensures { λ r. ⌜ blockView r (now (output .exit)) ≡ block (fir capacity binary64) (tapsView self) (now (input .entry)) (now (output .entry)) ⌝ }
     {
         let taps = self.taps;
@@ -174,7 +174,7 @@ impl TapRecord {
             input,
             output,
         );
-        Blocked {
+        BlockResult {
             filter: TapRecord {
                 taps,
                 samples,

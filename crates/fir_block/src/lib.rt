@@ -15,14 +15,14 @@ ghost use Rattle.fir_theory.specs.Lent.{capacity, lentTaps, fits};
 ghost use Rattle.fir_theory.specs.Blocks.{backFrom, finiteRun, ageAfter, cloudsFrom, newestOf, ranBlock, FullRun};
 
 // What a block returns: 0 or the refusal number, how many answers were Clouded, and the held count after it.
-pub struct Blocked {
+pub struct BlockResult {
     pub refusal: u8,
     pub clouded: usize,
     pub held: usize,
 }
 
 // How many answers were Clouded, and the held count after them.
-struct Ran {
+struct PassResult {
     clouded: usize,
     held: usize,
 }
@@ -157,7 +157,7 @@ fn pass_some(
     input: &[f64],
     k: usize,
     output: &mut [f64],
-) -> Ran
+) -> PassResult
     requires { ⌜ (fits capacity (lentTaps (now taps) (now samples) n held window) ≡ true) × (checkTaps capacity (lentTaps (now taps) (now samples) n held window) ≡ true)
         × (k ≤ length (now input)) × (length (now input) ≤ length (now output)) ⌝ }
     ensures { λ r. ⌜ ranBlock (r .clouded) (lentTaps (now (taps .entry)) (now (samples .exit)) n (r .held) window) (now (output .exit))
@@ -176,7 +176,7 @@ fn pass_some(
         }
         i += 1;
     }
-    Ran { clouded, held }
+    PassResult { clouded, held }
 }
 
 // A block of samples, each as `fir_step::update` has it: the answers in the first places of the output, later places left. An
@@ -189,20 +189,20 @@ pub fn block(
     window: usize,
     input: &[f64],
     output: &mut [f64],
-) -> Blocked
+) -> BlockResult
     ensures { λ r. ⌜ record { refusal = r .refusal; clouded = r .clouded; state = lentTaps (now (taps .entry)) (now (samples .exit)) n (r .held) window; output = now (output .exit) }
         ≡ lentBlock (fir capacity binary64) (fits capacity) (lentTaps (now (taps .entry)) (now (samples .entry)) n held window) (now (input .entry)) (now (output .entry)) ⌝ }
 {
     let refusal = fir_step::refusal_of(taps, samples, n, held, window);
     if refusal != 0 {
-        return Blocked {
+        return BlockResult {
             refusal,
             clouded: 0,
             held,
         };
     }
     if output.len() < input.len() {
-        return Blocked {
+        return BlockResult {
             refusal: runs::SHORT_OUTPUT,
             clouded: 0,
             held,
@@ -213,14 +213,14 @@ pub fn block(
     let first = if all < missing { all } else { missing };
     let front = pass_some(taps, samples, n, held, window, input, first, output);
     if all <= first {
-        return Blocked {
+        return BlockResult {
             refusal: 0,
             clouded: front.clouded,
             held: front.held,
         };
     }
     let rest = pass_all(taps, samples, n, input, first, output);
-    Blocked {
+    BlockResult {
         refusal: 0,
         clouded: front.clouded + rest,
         held: front.held,

@@ -19,19 +19,19 @@ pub const MAX_TAPS: usize = 64;
 pub const READY_MADE: usize = 4;
 
 // What a step answers, and the held count after it.
-pub struct Stepped {
+pub struct UpdateResult {
     pub answer: Answer,
     pub held: usize,
 }
 
 // What a reset returns: 0 or the refusal number, and the held count after it.
-pub struct WasReset {
+pub struct ResetResult {
     pub refusal: u8,
     pub held: usize,
 }
 
 // The number answered to a sample, its mark, and the held count after it.
-struct Passed {
+struct PassResult {
     out: f64,
     clouded: bool,
     held: usize,
@@ -126,7 +126,7 @@ fn clouds(taps: &[f64], samples: &[f64], n: usize, y: f64) -> bool
 }
 
 // The number answered to x, its mark, and the held count after it.
-fn pass(taps: &[f64], samples: &mut [f64], n: usize, held: usize, x: f64) -> Passed
+fn pass(taps: &[f64], samples: &mut [f64], n: usize, held: usize, x: f64) -> PassResult
     requires { ⌜ (n ≤ length (now taps)) × (n ≤ length (now samples)) × (held ≤ n) ⌝ }
     ensures { λ r. ⌜ (now (samples .exit) ≡ pushed n x (now (samples .entry)))
         × (r .held ≡ min (held + 1) n)
@@ -136,7 +136,7 @@ fn pass(taps: &[f64], samples: &mut [f64], n: usize, held: usize, x: f64) -> Pas
     let held = if held < n { held + 1 } else { n };
     let out = take_in(taps, samples, n, held, x);
     let clouded = clouds(taps, samples, held, out);
-    Passed { out, clouded, held }
+    PassResult { out, clouded, held }
 }
 
 // Whether the slices fit the record. Slices that do not are refused by 13.
@@ -186,25 +186,25 @@ pub fn update(
     held: usize,
     window: usize,
     x: f64,
-) -> Stepped
+) -> UpdateResult
     ensures { λ r. ⌜ record { answer = answerView (r .answer); state = lentTaps (now (taps .entry)) (now (samples .exit)) size (r .held) window }
         ≡ lentStep (fir capacity binary64) (fits capacity) (lentTaps (now (taps .entry)) (now (samples .entry)) size held window) x ⌝ }
 {
     let refusal = refusal_of(taps, samples, size, held, window);
     if refusal != 0 {
-        return Stepped {
+        return UpdateResult {
             answer: Answer::Refused(refusal),
             held,
         };
     }
     let p = pass(taps, samples, size, held, x);
     if p.clouded {
-        Stepped {
+        UpdateResult {
             answer: Answer::Clouded(p.out),
             held: p.held,
         }
     } else {
-        Stepped {
+        UpdateResult {
             answer: Answer::Clear(p.out),
             held: p.held,
         }
@@ -223,16 +223,16 @@ fn clear(samples: &mut [f64])
 }
 
 // Makes all sample places +0 and the held count 0.
-pub fn reset(taps: &[f64], samples: &mut [f64], size: usize, held: usize, window: usize) -> WasReset
+pub fn reset(taps: &[f64], samples: &mut [f64], size: usize, held: usize, window: usize) -> ResetResult
     ensures { λ r. ⌜ record { refusal = r .refusal; state = lentTaps (now (taps .entry)) (now (samples .exit)) size (r .held) window }
         ≡ lentReset (fir capacity binary64) (fits capacity) (lentTaps (now (taps .entry)) (now (samples .entry)) size held window) ⌝ }
 {
     let refusal = refusal_of(taps, samples, size, held, window);
     if refusal != 0 {
-        return WasReset { refusal, held };
+        return ResetResult { refusal, held };
     }
     clear(samples);
-    WasReset {
+    ResetResult {
         refusal: 0,
         held: 0,
     }

@@ -24,13 +24,13 @@ pub struct Parts {
 }
 
 // Digits brought up to 53: q is t * 2 ^ j.
-struct Lifted {
+struct LiftResult {
     q: u64,
     j: u64,
 }
 
 // A subnormal's digits t, doubled until there are 53.
-fn lift(t: u64) -> Lifted
+fn lift(t: u64) -> LiftResult
     requires { ⌜ 0 < t ⌝ ∗ ⌜ t < 2 ^ 52 ⌝ }
     ensures { λ r. ⌜ r .q ≡ t * 2 ^ r .j ⌝ ∗ ⌜ 2 ^ 52 ≤ r .q ⌝ ∗ ⌜ r .q < 2 ^ 53 ⌝ ∗ ⌜ r .j ≤ 53 ⌝ }
 {
@@ -40,7 +40,7 @@ fn lift(t: u64) -> Lifted
         q = q * 2;
         j += 1;
     }
-    Lifted { q, j }
+    LiftResult { q, j }
 }
 
 // q / 2 ^ 52, by its bit pattern.

@@ -4,51 +4,51 @@ ghost use mathlib.Core.Path.{_≡_};
 ghost use mathlib.Core.Bool.{cond};
 ghost use mathlib.Core.List.{map};
 ghost use lib.Ieee.{binary64};
-ghost use Rattle.cascade_theory.specs.Section.{clearedBiquad, sectionOut, sectionNext};
+ghost use Rattle.cascade_theory.specs.Section.{clearedSection, sectionOut, sectionNext};
 ghost use Rattle.cascade_theory.specs.FirstOrder.{firstOut, firstNext};
 ghost use Rattle.sections.specs.View.{sectionView, firstView};
 ghost use Rattle.cascade_theory.specs.Parts.{sectionsOut, sectionsNext};
 use sections::FirstOrder;
-use sections::FirstProcessed;
-use sections::Processed;
+use sections::FirstOrderResult;
+use sections::ProcessResult;
 use sections::Section;
 
 // How many sections there are.
 pub const MAX_SECTIONS: usize = 4;
 
 // A number that came out of the sections, and the sections after it.
-pub struct Through {
+pub struct PassResult {
     pub out: f64,
     pub sections: [Section; 4],
 }
 
 // A sample through the first-order part where it is used.
-pub fn enter(has_first: bool, first: FirstOrder, x: f64) -> FirstProcessed
+pub fn enter(has_first: bool, first: FirstOrder, x: f64) -> FirstOrderResult
     ensures { λ r. ⌜ (r .out ≡ cond «has_first» (firstOut binary64 (firstView first) x) x)
         × (firstView (r .first) ≡ cond «has_first» (firstNext binary64 (firstView first) x) (firstView first)) ⌝ }
 {
     if has_first {
         first.process(x)
     } else {
-        FirstProcessed { out: x, first }
+        FirstOrderResult { out: x, first }
     }
 }
 
 // A sample through a section where it is used.
-fn turn(used: bool, section: Section, x: f64) -> Processed
+fn turn(used: bool, section: Section, x: f64) -> ProcessResult
     ensures { λ r. ⌜ (r .out ≡ cond used (sectionOut binary64 (sectionView section) x) x)
         × (sectionView (r .section) ≡ cond used (sectionNext binary64 (sectionView section) x) (sectionView section)) ⌝ }
 {
     if used {
         section.process(x)
     } else {
-        Processed { out: x, section }
+        ProcessResult { out: x, section }
     }
 }
 
 // A sample through the first `count` sections, from section 0 upward, and through all where that is above 4: four turns, so
 // that no place depends on the count.
-pub fn pass_sections(sections: [Section; 4], count: usize, x: f64) -> Through
+pub fn pass_sections(sections: [Section; 4], count: usize, x: f64) -> PassResult
     ensures { λ r. ⌜ (r .out ≡ sectionsOut binary64 count (map sectionView sections) x)
         × (map sectionView (r .sections) ≡ sectionsNext binary64 count (map sectionView sections) x) ⌝ }
 {
@@ -60,7 +60,7 @@ pub fn pass_sections(sections: [Section; 4], count: usize, x: f64) -> Through
     let s1 = p1.section;
     let s2 = p2.section;
     let s3 = p3.section;
-    Through {
+    PassResult {
         out: p3.out,
         sections: [s0, s1, s2, s3],
     }
@@ -68,7 +68,7 @@ pub fn pass_sections(sections: [Section; 4], count: usize, x: f64) -> Through
 
 // All four sections with carried values +0.
 pub fn reset_sections(sections: [Section; 4]) -> [Section; 4]
-    ensures { λ r. ⌜ map sectionView r ≡ map clearedBiquad (map sectionView sections) ⌝ }
+    ensures { λ r. ⌜ map sectionView r ≡ map clearedSection (map sectionView sections) ⌝ }
 {
     let mut kept = sections;
     let mut i: usize = 0;

@@ -18,7 +18,7 @@ pub struct Four {
 }
 
 // What `run` returns: whether the samples were run, and the sections after them.
-pub struct Ran {
+pub struct RunResult {
     pub four: Four,
     pub done: bool,
 }
@@ -33,13 +33,13 @@ struct Line {
 }
 
 // A number that came out of the line, and the line after it.
-struct Advanced {
+struct AdvanceResult {
     out: f64,
     line: Line,
 }
 
 // The last three numbers out of a line, and its sections after them.
-struct Drained {
+struct DrainResult {
     four: Four,
     y0: f64,
     y1: f64,
@@ -69,7 +69,7 @@ fn fill(four: Four, x0: f64, x1: f64, x2: f64) -> Line
 }
 
 // One sample in and one number out, that of three samples before.
-fn advance(line: Line, x: f64) -> Advanced
+fn advance(line: Line, x: f64) -> AdvanceResult
     ensures { λ r. ⌜ (r .out ≡ lineOut binary64 (lineView line)) × (lineView (r .line) ≡ advanced binary64 (lineView line) x) ⌝ }
 {
     let four = line.four;
@@ -81,7 +81,7 @@ fn advance(line: Line, x: f64) -> Advanced
     let s1 = b.section;
     let s2 = c.section;
     let s3 = d.section;
-    Advanced {
+    AdvanceResult {
         out: d.out,
         line: Line {
             four: Four { s0, s1, s2, s3 },
@@ -93,7 +93,7 @@ fn advance(line: Line, x: f64) -> Advanced
 }
 
 // The numbers on their way, each to the end.
-fn drain(line: Line) -> Drained
+fn drain(line: Line) -> DrainResult
     ensures { λ r. ⌜ drainedView r ≡ drained binary64 (lineView line) ⌝ }
 {
     let four = line.four;
@@ -107,7 +107,7 @@ fn drain(line: Line) -> Drained
     let s1 = b.section;
     let s2 = c1.section;
     let s3 = d2.section;
-    Drained {
+    DrainResult {
         four: Four { s0, s1, s2, s3 },
         y0: d0.out,
         y1: d1.out,
@@ -117,15 +117,15 @@ fn drain(line: Line) -> Drained
 
 // Samples through four sections: the answers in the first places of the output, later places left. Fewer than three
 // samples, or more than the output has places, are not run, and change nothing.
-pub fn run(four: Four, input: &[f64], output: &mut [f64]) -> Ran
+pub fn run(four: Four, input: &[f64], output: &mut [f64]) -> RunResult
     ensures { λ r. ⌜ ranView r (now (output .exit)) ≡ ran binary64 (fourView four) (now (input .entry)) (now (output .entry)) ⌝ }
 {
     let n = input.len();
     if n < 3 {
-        return Ran { four, done: false };
+        return RunResult { four, done: false };
     }
     if output.len() < n {
-        return Ran { four, done: false };
+        return RunResult { four, done: false };
     }
     let end = n - 3;
     let mut line = fill(four, input[0], input[1], input[2]);
@@ -142,7 +142,7 @@ pub fn run(four: Four, input: &[f64], output: &mut [f64]) -> Ran
     output[i + 1] = d.y1;
     output[i + 2] = d.y2;
     let last = d.four;
-    Ran {
+    RunResult {
         four: last,
         done: true,
     }

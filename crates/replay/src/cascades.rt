@@ -11,7 +11,7 @@ use crate::compare::meets_refusal;
 use crate::compare::places;
 use crate::compare::word;
 use cascade::Cascade;
-use design_cascade::Design;
+use design_cascade::CascadeDesignResult;
 use design_request::DesignRequest;
 use sections::FirstOrder;
 use sections::Section;
@@ -75,7 +75,7 @@ fn what(asked: &[u64]) -> Wanted {
 }
 
 // The design by its own function.
-fn direct(kind: usize, w: Wanted) -> Design {
+fn direct(kind: usize, w: Wanted) -> CascadeDesignResult {
     match kind {
         0 => design_cascade::design_butterworth_lp(w.order, w.a, w.b),
         1 => design_cascade::design_butterworth_hp(w.order, w.a, w.b),
@@ -127,7 +127,7 @@ fn meets_request(stored: &[u64], request: DesignRequest) -> bool {
 }
 
 // The design's cascade, and whether it is as stored too.
-fn taken(d: Design, stored: &[u64], agreed: &mut bool) -> Cascade {
+fn taken(d: CascadeDesignResult, stored: &[u64], agreed: &mut bool) -> Cascade {
     *agreed = *agreed & meets_design(stored, d.refusal, d.cascade);
     d.cascade
 }

@@ -12,7 +12,7 @@ use crate::compare::places;
 use crate::compare::word;
 use design_fir::WindowType;
 use design_request::DesignRequest;
-use fir::Made;
+use fir::FirDesignResult;
 use fir::TapRecord;
 
 // The first `length` taps.
@@ -80,7 +80,7 @@ fn meets_request(stored: &[u64], w: Wanted) -> bool {
 }
 
 // The record that was made, and whether it is as stored too.
-fn taken(m: Made, stored: &[u64], agreed: &mut bool) -> TapRecord {
+fn taken(m: FirDesignResult, stored: &[u64], agreed: &mut bool) -> TapRecord {
     *agreed = *agreed & meets_made(stored, m.refusal, m.filter);
     m.filter
 }

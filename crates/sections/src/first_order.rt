@@ -13,7 +13,7 @@ pub struct FirstOrder {
 }
 
 // What a first-order part answers to a sample, and the part after it.
-pub struct FirstProcessed {
+pub struct FirstOrderResult {
     pub out: f64,
     pub first: FirstOrder,
 }
@@ -41,14 +41,14 @@ impl FirstOrder {
     }
 
     // y = b0·x + w, then w becomes b1·x − a1·y.
-    pub fn process(self, x: f64) -> FirstProcessed
+    pub fn process(self, x: f64) -> FirstOrderResult
         ensures { λ r. ⌜ (r .out ≡ firstOut binary64 (firstView self) x) × (firstView (r .first) ≡ firstNext binary64 (firstView self) x) ⌝ }
     {
         let y = self.b0 * x + self.w;
         let w = self.b1 * x - self.a1 * y;
         let mut first = self;
         first.w = w;
-        FirstProcessed { out: y, first }
+        FirstOrderResult { out: y, first }
     }
 
     // Sets the carried value to +0.

@@ -3,7 +3,7 @@ mod first_order;
 mod section;
 
 pub use first_order::FirstOrder;
-pub use first_order::FirstProcessed;
-pub use section::Processed;
+pub use first_order::FirstOrderResult;
+pub use section::ProcessResult;
 pub use section::Section;
 pub use section::process;

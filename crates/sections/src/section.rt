@@ -1,7 +1,7 @@
 // A second-order section in transposed direct form II: 000's ButterworthBiquad and 001's ChebBiquad, which are the same.
 ghost use mathlib.Core.Path.{_≡_};
 ghost use lib.Ieee.{binary64};
-ghost use Rattle.cascade_theory.specs.Section.{newBiquad, identityBiquad, blankBiquad, clearedBiquad, sectionOut, sectionNext};
+ghost use Rattle.cascade_theory.specs.Section.{newSection, identitySection, blankSection, clearedSection, sectionOut, sectionNext};
 ghost use Rattle.sections.specs.View.{sectionView};
 
 // Coefficients and two carried values.
@@ -16,7 +16,7 @@ pub struct Section {
 }
 
 // What a section answers to a sample, and the section after it.
-pub struct Processed {
+pub struct ProcessResult {
     pub out: f64,
     pub section: Section,
 }
@@ -24,7 +24,7 @@ pub struct Processed {
 impl Section {
     // A section with these coefficients and carried values +0.
     pub fn new(b0: f64, b1: f64, b2: f64, a1: f64, a2: f64) -> Self
-        ensures { λ r. ⌜ sectionView r ≡ newBiquad b0 b1 b2 a1 a2 ⌝ }
+        ensures { λ r. ⌜ sectionView r ≡ newSection b0 b1 b2 a1 a2 ⌝ }
     {
         Section {
             b0,
@@ -39,20 +39,20 @@ impl Section {
 
     // A section that passes a sample on.
     pub fn identity() -> Self
-        ensures { λ r. ⌜ sectionView r ≡ identityBiquad ⌝ }
+        ensures { λ r. ⌜ sectionView r ≡ identitySection ⌝ }
     {
         Section::new(1.0, 0.0, 0.0, 0.0, 0.0)
     }
 
     // An unused section of a design: all numbers +0.
     pub fn blank() -> Self
-        ensures { λ r. ⌜ sectionView r ≡ blankBiquad ⌝ }
+        ensures { λ r. ⌜ sectionView r ≡ blankSection ⌝ }
     {
         Section::new(0.0, 0.0, 0.0, 0.0, 0.0)
     }
 
     // y = b0·x + w1; w1 becomes (b1·x − a1·y) + w2; w2 becomes b2·x − a2·y.
-    pub fn process(self, x: f64) -> Processed
+    pub fn process(self, x: f64) -> ProcessResult
         ensures { λ r. ⌜ (r .out ≡ sectionOut binary64 (sectionView self) x) × (sectionView (r .section) ≡ sectionNext binary64 (sectionView self) x) ⌝ }
     {
         let y = self.b0 * x + self.w1;
@@ -61,12 +61,12 @@ impl Section {
         let mut section = self;
         section.w1 = w1;
         section.w2 = w2;
-        Processed { out: y, section }
+        ProcessResult { out: y, section }
     }
 
     // Sets the carried values to +0.
     pub fn reset(self) -> Self
-        ensures { λ r. ⌜ sectionView r ≡ clearedBiquad (sectionView self) ⌝ }
+        ensures { λ r. ⌜ sectionView r ≡ clearedSection (sectionView self) ⌝ }
     {
         let mut section = self;
         section.w1 = 0.0;

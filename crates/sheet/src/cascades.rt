@@ -11,7 +11,7 @@ use super::put::put_refused;
 use super::records::Records;
 use cascade::Cascade;
 use design_request::DesignRequest;
-use design_request::Designed;
+use design_request::DesignResult;
 use design_request::design;
 use sections::Section;
 use text_answers::put_bytes;
@@ -113,7 +113,7 @@ fn requested(kind: CascadeKind, p: OrderAndFloats) -> DesignRequest {
 }
 
 // What a design answers.
-fn put_design(output: &mut [u8], at: usize, d: Designed) -> usize {
+fn put_design(output: &mut [u8], at: usize, d: DesignResult) -> usize {
     if d.refusal != 0 {
         return put_refused(output, at, d.refusal);
     }

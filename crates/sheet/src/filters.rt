@@ -12,7 +12,7 @@ use super::put::put_refused;
 use super::records::Records;
 use design_request::DesignRequest;
 use design_request::design;
-use fir::Made;
+use fir::FirDesignResult;
 use fir::TapRecord;
 use text_answers::put_bytes;
 use text_answers::put_count;
@@ -31,7 +31,7 @@ fn put_taps(
 }
 
 // What a design answers, and ready-made taps.
-fn put_made(output: &mut [u8], at: usize, made: Made) -> usize {
+fn put_made(output: &mut [u8], at: usize, made: FirDesignResult) -> usize {
     if made.refusal != 0 {
         return put_refused(output, at, made.refusal);
     }
@@ -44,7 +44,7 @@ fn put_made(output: &mut [u8], at: usize, made: Made) -> usize {
     put_taps(output, at, taps, filter.length)
 }
 
-fn answer_made(made: Made, output: &mut [u8], at: usize, records: Records) -> Answered {
+fn answer_made(made: FirDesignResult, output: &mut [u8], at: usize, records: Records) -> Answered {
     let filter = made.filter;
     let at = put_made(output, at, made);
     end_answer(output, at, records.with_filter(filter))
@@ -63,7 +63,7 @@ pub(crate) fn answer_fir(rest: &[u8], output: &mut [u8], at: usize, records: Rec
         window,
     });
     let filter = d.filter;
-    let made = Made {
+    let made = FirDesignResult {
         filter,
         refusal: d.refusal,
     };

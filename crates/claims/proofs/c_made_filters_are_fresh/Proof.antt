@@ -10,7 +10,7 @@ use lib.Ieee.{Float, binary64}
 use borrow.Author.Tests.{eqb-true, eqb-false}
 use Rattle.runs.specs.Refusals.{Accepted, InvalidOrder, BadCall, orderRefused}
 use Rattle.runs.specs.Runs.{plusZero}
-use Rattle.cascade_theory.specs.Section.{Biquad}
+use Rattle.cascade_theory.specs.Section.{SectionRecord}
 use Rattle.cascade_theory.specs.Cascade.{CascadeRecord}
 use Rattle.cascade.specs.View.{FreshCascade}
 use Rattle.fir_theory.specs.Fir.{TapsRecord, Made, ReadyMade, Blackman, blankTaps, holding, fromCoeffs}
@@ -66,7 +66,7 @@ cascade-made d four fresh numbers numbers′ counts counts′ e = go (cascadePla
         let ec : counts′ ≡ cascadeCounts (d .cascade) = ap (λ (s : Stored). s .counts) z in
         (ap₂ cascadeFits en ec ∙ back .1, rw (en, ec, back .0) (fresh (eqb-true (d .refusal) 0 q)))
 
-padded-length : (p : ℕ) (ss : List Biquad) → length (padded p ss) ≡ p
+padded-length : (p : ℕ) (ss : List SectionRecord) → length (padded p ss) ≡ p
 unfolding padded
 padded-length zero ss = refl
 padded-length (suc p) [] = ap suc (padded-length p [])

@@ -44,11 +44,11 @@ use denote.Exit.{yes}
 use Rattle.cascade_theory.specs.Section.{sectionOut, sectionNext}
 use Rattle.sections.specs.View.{sectionView}
 use Rattle.sections.specs.declared.section.Section.{Section}
-use Rattle.sections.specs.declared.section.Processed.{Processed}
+use Rattle.sections.specs.declared.section.ProcessResult.{ProcessResult}
 use Rattle.sections.proofs.section.Section as T
 use Rattle.sections.proofs.section.Section.Laws as T′
-use Rattle.sections.proofs.section.Processed as P
-use Rattle.sections.proofs.section.Processed.Laws as P′
+use Rattle.sections.proofs.section.ProcessResult as P
+use Rattle.sections.proofs.section.ProcessResult.Laws as P′
 use Rattle.sections.proofs.section.Section.process as g
 use Rattle.sections.proofs.section.Section.process.Symbol as g-def
 use Rattle.sections.proofs.section.Section.process.Symbol.{name as #by-value}
@@ -65,17 +65,17 @@ abbrev stayed : Stays (f.ended .signature .params) (f.ended .kept)
 stayed = (stay-ref (0 ∷ []) tt (plain (λ _. T.the-row)), (stay-none (λ _. f64) yes, tt))
 
 -- what `process` says of its result r, and the borrowed form of its own
-abbrev Right : Section → Float → Processed → Type 0
+abbrev Right : Section → Float → ProcessResult → Type 0
 Right h n r = (r .out ≡ sectionOut binary64 (sectionView h) n) × (sectionView (r .section) ≡ sectionNext binary64 (sectionView h) n)
 
 abbrev section-vals : Section → List Val
 section-vals h = LL.vals T.the-type T′.the-laws h
 
--- what whoever holds a `Processed` knows of its two fields
-section-is : (r : Processed) (v : Val) → Is P.the-row r (v ∷ []) → Is T.the-row (r .section) (section-vals (r .section))
+-- what whoever holds a `ProcessResult` knows of its two fields
+section-is : (r : ProcessResult) (v : Val) → Is P.the-row r (v ∷ []) → Is T.the-row (r .section) (section-vals (r .section))
 section-is r v is = LL.owed P.the-type P′.the-laws r (v ∷ []) is .1 .0
 
-out-fits : (r : Processed) (v : Val) → Is P.the-row r (v ∷ []) → fits binary64 (r .out) ≡ true
+out-fits : (r : ProcessResult) (v : Val) → Is P.the-row r (v ∷ []) → fits binary64 (r .out) ≡ true
 out-fits r v is = LL.owed P.the-type P′.the-laws r (v ∷ []) is .0 .1
 
 module _ {M : Type 1} (𝓤 : URA M) (H : Heap 𝓤) (A : Atoms 𝓤) (at-mem : Memory → SProp 𝓤) (run : Routine → Fun 𝓤) where
@@ -83,7 +83,7 @@ module _ {M : Type 1} (𝓤 : URA M) (H : Heap 𝓤) (A : Atoms 𝓤) (at-mem : 
   abbrev Proc : Contract 𝓤
   Proc = tripleOf 𝓤 H A g.signature (g.spec 𝓤 H A at-mem run)
 
-  right-of : (h : Section) (n : Float) (r : Processed) → ent 𝓤 (ensured 𝓤 H A g.ended (g.clauses 𝓤 H A at-mem run) tt (h, (n, tt)) tt r) (fact 𝓤 (Right h n r))
+  right-of : (h : Section) (n : Float) (r : ProcessResult) → ent 𝓤 (ensured 𝓤 H A g.ended (g.clauses 𝓤 H A at-mem run) tt (h, (n, tt)) tt r) (fact 𝓤 (Right h n r))
   right-of h n r = exE 𝓤 _ (λ ws. snd∗ 𝓤 (sem 𝓤 H A (lasts g.ended tt (h, (n, tt)) ws)) (fact 𝓤 (Right h n r)))
 
 module _ {M : Type 1} (𝓤 : URA M) (H : Heap 𝓤) (A : Atoms 𝓤) (W : Given 𝓤 H A) (at-mem : Memory → SProp 𝓤) (run : Routine → Fun 𝓤) (κ : Lft) (q : Share) (b o : ℕ) (γ : GName) (h : Section) (n : Float) where
@@ -96,7 +96,7 @@ module _ {M : Type 1} (𝓤 : URA M) (H : Heap 𝓤) (A : Atoms 𝓤) (W : Given
   abbrev Post : Val → SProp 𝓤
   Post = walkOf 𝓤 H A f.ended stayed (f.clauses 𝓤 H A at-mem run) .post (((κ, tt), (q, tt), tt, x, at), tt)
 
-  exits : (r : Processed) → Right h n r → fits binary64 n ≡ true → fits binary64 (r .out) ≡ true
+  exits : (r : ProcessResult) → Right h n r → fits binary64 n ≡ true → fits binary64 (r .out) ≡ true
       → ent 𝓤 (sep 𝓤 (A .obs γ (T.the-row .coded .code (r .section))) (sep 𝓤 (A .bor κ (Body (mem T.the-row) b o γ)) (A .lft κ q))) (Post (vfloat binary64 (r .out)))
   exits r e ok ok′ =
       qed W (‵ (fobs γ (T.the-row .coded .code (r .section))) ∷ ‵ (fbor κ (Body (mem T.the-row) b o γ)) ∷ ‵ (flft κ q) ∷ []) ∵
@@ -127,7 +127,7 @@ module _ {M : Type 1} (𝓤 : URA M) (H : Heap 𝓤) (A : Atoms 𝓤) (W : Given
         assigns ! (of-opd ! (load ! (from ! (hop ! (look ! 10 refl) (stop !))) (look-raw ! 0 refl))) (from ! (stop !)) (init ! 6 refl (LL.lawful T.the-type T′.the-laws 𝓤 H A W .typed h _ was .0)) $
         nothing ! $ use1 W (raw (Proc 𝓤 H A at-mem run .pre to-proc)) (goes-proc was (gn .1)) $
         calls-at ! fm (Proc 𝓤 H A at-mem run) known to-proc (and-then ! (load ! (from ! (stop !)) (look ! 7 refl)) (and-then ! (load ! (from ! (stop !)) (look ! 9 refl)) (no-more !))) (λ v.
-        use1 W (later (some (λ (r : Processed). (‵ ftrue ⊛ ‵ (P.the-row .own r (v ∷ []))) ⊛ raw (ensured 𝓤 H A g.ended (g.clauses 𝓤 H A at-mem run) tt (h, (n, tt)) tt r)))) (id⊢ 𝓤 _) $ await ! tt $ pick ! (λ r.
+        use1 W (later (some (λ (r : ProcessResult). (‵ ftrue ⊛ ‵ (P.the-row .own r (v ∷ []))) ⊛ raw (ensured 𝓤 H A g.ended (g.clauses 𝓤 H A at-mem run) tt (h, (n, tt)) tt r)))) (id⊢ 𝓤 _) $ await ! tt $ pick ! (λ r.
         split ! $ move ! (1 ∷ []) $ use1 W (raw (fact 𝓤 (Right h n r))) (right-of 𝓤 H A at-mem run h n r) $ heard ! (Right h n r) (λ e. split ! $ drop ! $
         peeks ! P.the-row (Is P.the-row) (shows 𝓤 H A P.the-row) r (v ∷ []) (λ is.
         -- [what r owns; the section's cell; …; room for _4 at 5; …]
