@@ -8,14 +8,15 @@ use lib.Dec.{eqb}
 use lib.ListN.{length, length-map, length-replicate}
 use lib.Ieee.{Float, Format, binary64}
 use borrow.Author.Tests.{eq-eqb}
-use Rattle.runs.specs.Runs.{plusZero}
+use Rattle.limits.specs.Zero.{plusZero}
 use Rattle.cascade_theory.specs.Section.{SectionRecord, clearedSection, sectionOut}
 use Rattle.cascade_theory.specs.Parts.{sectionsNext}
 use Rattle.cascade_theory.specs.Cascade.{CascadeRecord, clearedCascade, entered, moved, next}
 use Rattle.cascade_theory.proofs.Laws.{check-next}
 use Rattle.fir_theory.specs.Fir as Fir
 use Rattle.fir_theory.specs.Fir.{TapsRecord, clearedTaps}
-use Rattle.fir_theory.specs.Lent.{capacity, fits}
+use Rattle.limits.specs.Limits.{maxTaps}
+use Rattle.fir_theory.specs.Lent.{fits}
 use Rattle.fir_theory.proofs.Laws as Taps
 use Rattle.fir_theory.proofs.Laws.{fits-next, fits-lengths, lengths-fit}
 use Rattle.c_layout.specs.Layout.{cascadeAt, cascadeNumbers, sectionsNumbers, cascadeCounts, cascadePlaces, cascadeFits}
@@ -62,24 +63,24 @@ cascade-read-back = record {
   numbered = ((λ e. omega (arith, e)), (λ e. omega (arith, e)));
 }
 
--- ---- a tap record with these taps: its slices have as many places as the capacity
+-- ---- a tap record with these taps: its slices have as many places as the maxTaps
 
-pub taps-fit : (taps samples : List Float) (counts : List ℕ) → tapsFit taps samples counts ≡ true → fits capacity (tapsAt taps samples counts) ≡ true
+pub taps-fit : (taps samples : List Float) (counts : List ℕ) → tapsFit taps samples counts ≡ true → fits maxTaps (tapsAt taps samples counts) ≡ true
 unfolding tapsFit
 taps-fit taps samples counts h = both (eqb (length counts) 3) _ h .1
 
-pub taps-back : (taps : List Float) (r : TapsRecord) → r .taps ≡ taps → fits capacity r ≡ true → (tapsAt taps (r .samples) (tapsCounts r) ≡ r) × (tapsFit taps (r .samples) (tapsCounts r) ≡ true)
+pub taps-back : (taps : List Float) (r : TapsRecord) → r .taps ≡ taps → fits maxTaps r ≡ true → (tapsAt taps (r .samples) (tapsCounts r) ≡ r) × (tapsFit taps (r .samples) (tapsCounts r) ≡ true)
 unfolding tapsAt tapsCounts tapsFit
 taps-back taps r e h = (rw (← e), rw (← e) h)
 
 pub fir-read-back : (taps : List Float) → ReadBack (firKind taps)
 unfolding tapsAt Fir.next clearedTaps
 fir-read-back taps = record {
-  Good = λ r. (r .taps ≡ taps) × (fits capacity r ≡ true);
+  Good = λ r. (r .taps ≡ taps) × (fits maxTaps r ≡ true);
   good-read = λ samples counts fit. (refl, taps-fit taps samples counts fit);
-  good-next = λ r x h g. (g .0, fits-next capacity r x (g .1) h);
-  good-cleared = λ r g. (g .0, lengths-fit capacity (clearedTaps capacity r) (fits-lengths capacity r (g .1) .0) (length-replicate capacity plusZero));
-  keeps = Taps.check-next capacity;
+  good-next = λ r x h g. (g .0, fits-next maxTaps r x (g .1) h);
+  good-cleared = λ r g. (g .0, lengths-fit maxTaps (clearedTaps maxTaps r) (fits-lengths maxTaps r (g .1) .0) (length-replicate maxTaps plusZero));
+  keeps = Taps.check-next maxTaps;
   back = λ r g. taps-back taps r (g .0) (g .1) .0;
   fit-back = λ r g. taps-back taps r (g .0) (g .1) .1;
   numbered = ((λ e. omega (arith, e)), (λ e. omega (arith, e)));

@@ -12,7 +12,8 @@ use Rattle.runs.specs.Runs.{Filter, Answer, Step, Reset, Block, numberOf, isClo
 use Rattle.runs.specs.Lent.{lentStep, lentReset, lentBlock}
 use Rattle.runs.proofs.Lent.{lent-step, lent-reset, lent-block, unfit-step, unfit-reset, unfit-block, step-keeps, reset-keeps, block-keeps}
 use Rattle.fir_theory.specs.Fir.{TapsRecord, Made, fir}
-use Rattle.fir_theory.specs.Lent.{capacity, lentTaps, fits}
+use Rattle.limits.specs.Limits.{maxTaps}
+use Rattle.fir_theory.specs.Lent.{lentTaps, fits}
 use Rattle.design_cascade.specs.Design.{DesignRecord}
 use Rattle.cascade_theory.specs.Cascade.{CascadeRecord, blankCascade}
 use Rattle.c_layout.proofs.Laws.{fits-places, cond-true}
@@ -35,16 +36,16 @@ module _ (ns : List Float) (cs : List ℕ) where
 -- ---- the tests of lengths
 
 -- slices of a tap record
-pub taps-last : (ts ss : List Float) (cs : List ℕ) → length ts ≡ capacity → length ss ≡ capacity → eqb (length cs) 3 ≡ tapsPlaces ts ss cs
+pub taps-last : (ts ss : List Float) (cs : List ℕ) → length ts ≡ maxTaps → length ss ≡ maxTaps → eqb (length cs) 3 ≡ tapsPlaces ts ss cs
 unfolding tapsPlaces
-taps-last ts ss cs h k = rw (eq-eqb (length ts) capacity h, eq-eqb (length ss) capacity k)
+taps-last ts ss cs h k = rw (eq-eqb (length ts) maxTaps h, eq-eqb (length ss) maxTaps k)
 
-pub taps-lengths : (ts ss : List Float) (cs : List ℕ) → tapsPlaces ts ss cs ≡ true → (length ts ≡ capacity) × (length ss ≡ capacity) × (length cs ≡ 3)
+pub taps-lengths : (ts ss : List Float) (cs : List ℕ) → tapsPlaces ts ss cs ≡ true → (length ts ≡ maxTaps) × (length ss ≡ maxTaps) × (length cs ≡ 3)
 unfolding tapsPlaces
 taps-lengths ts ss cs h =
-    let p = both (eqb (length ts) capacity) (eqb (length ss) capacity && eqb (length cs) 3) h in
-    let q = both (eqb (length ss) capacity) (eqb (length cs) 3) (p .1) in
-    (eqb-true (length ts) capacity (p .0), eqb-true (length ss) capacity (q .0), eqb-true (length cs) 3 (q .1))
+    let p = both (eqb (length ts) maxTaps) (eqb (length ss) maxTaps && eqb (length cs) 3) h in
+    let q = both (eqb (length ss) maxTaps) (eqb (length cs) 3) (p .1) in
+    (eqb-true (length ts) maxTaps (p .0), eqb-true (length ss) maxTaps (q .0), eqb-true (length cs) 3 (q .1))
 
 pub single-lengths : (answer : List Float) (tally : List ℕ) → (eqb (length answer) 1 && eqb (length tally) 1) ≡ true → (length answer ≡ 1) × (length tally ≡ 1)
 single-lengths answer tally h = let p = both (eqb (length answer) 1) (eqb (length tally) 1) h in (eqb-true (length answer) 1 (p .0), eqb-true (length tally) 1 (p .1))
@@ -156,7 +157,7 @@ module _ (m : Made) (ts ss : List Float) (cs : List ℕ) where
 -- ---- a tap record: its samples are changed where they stand
 module _ (ts ss : List Float) (cs : List ℕ) where
   abbrev F : Filter
-  F = fir capacity binary64
+  F = fir maxTaps binary64
 
   abbrev before : TapsRecord
   before = lentTaps ts ss (getD cs 0 0) (getD cs 1 0) (getD cs 2 0)
@@ -170,7 +171,7 @@ module _ (ts ss : List Float) (cs : List ℕ) where
   uncounted h = rw (ne-eqb (length cs) 3 h)
 
   module _ (three : length cs ≡ 3) where
-    counted : tapsFit ts ss cs ≡ fits capacity before
+    counted : tapsFit ts ss cs ≡ fits maxTaps before
     unfolding tapsFit tapsAt
     counted = rw (eq-eqb (length cs) 3 three)
 
@@ -178,23 +179,23 @@ module _ (ts ss : List Float) (cs : List ℕ) where
     unfolding tapsCounts
     counts-set ss′ h = set-middle cs h three
 
-    fir-lent-step : (x : Float) → lentStep F (fits capacity) before x ≡ lentStep F (fitting (firKind ts) ss cs) (recordOf (firKind ts) ss cs) x
+    fir-lent-step : (x : Float) → lentStep F (fits maxTaps) before x ≡ lentStep F (fitting (firKind ts) ss cs) (recordOf (firKind ts) ss cs) x
     unfolding lentStep tapsAt
     fir-lent-step x = rw counted
 
-    fir-lent-reset : lentReset F (fits capacity) before ≡ lentReset F (fitting (firKind ts) ss cs) (recordOf (firKind ts) ss cs)
+    fir-lent-reset : lentReset F (fits maxTaps) before ≡ lentReset F (fitting (firKind ts) ss cs) (recordOf (firKind ts) ss cs)
     unfolding lentReset tapsAt
     fir-lent-reset = rw counted
 
-    fir-lent-block : (input output : List Float) → lentBlock F (fits capacity) before input output ≡ lentBlock F (fitting (firKind ts) ss cs) (recordOf (firKind ts) ss cs) input output
+    fir-lent-block : (input output : List Float) → lentBlock F (fits maxTaps) before input output ≡ lentBlock F (fitting (firKind ts) ss cs) (recordOf (firKind ts) ss cs) input output
     unfolding lentBlock tapsAt
     fir-lent-block input output = rw counted
 
     module _ (x : Float) (answer : List Float) (tally : List ℕ) (single : (eqb (length answer) 1 && eqb (length tally) 1) ≡ true) {a : Answer} {ss′ : List Float} {h n : ℕ}
-        (e : _≡_ {A = Step TapsRecord} (record { answer = a; state = with ss′ h }) (lentStep F (fits capacity) before x)) (g : n ≡ refusalOf a) where
+        (e : _≡_ {A = Step TapsRecord} (record { answer = a; state = with ss′ h }) (lentStep F (fits maxTaps) before x)) (g : n ≡ refusalOf a) where
       pub fir-step-refused : (n ≡ 0 → ⊥) → _≡_ {A = Call} (record { refusal = n; numbers = ss′; counts = cs; answers = answer; clouded = tally }) (stepCall (firKind ts) ss cs x answer tally)
       fir-step-refused k =
-          let same : ss′ ≡ ss = ap (λ (r : TapsRecord). r .samples) (step-keeps F (fits capacity) before x e (λ z. k (g ∙ z))) in
+          let same : ss′ ≡ ss = ap (λ (r : TapsRecord). r .samples) (step-keeps F (fits maxTaps) before x e (λ z. k (g ∙ z))) in
           ap (λ (l : List Float). record { refusal = n; numbers = l; counts = cs; answers = answer; clouded = tally }) same ∙ step-refused (firKind ts) ss cs x answer tally single (e ∙ fir-lent-step x) g k
 
       pub fir-step-accepted : n ≡ 0 → {ys : List Float} {tally′ : List ℕ} → ys ≡ numberOf a ∷ [] → tally′ ≡ flag (isClouded a) ∷ []
@@ -202,10 +203,10 @@ module _ (ts ss : List Float) (cs : List ℕ) where
       fir-step-accepted k ey et = step-accepted (firKind ts) ss cs x answer tally single (e ∙ fir-lent-step x) g k refl (counts-set ss′ h) ey et
 
     module _ (input output : List Float) (tally : List ℕ) (single : length tally ≡ 1) {ss′ o : List Float} {n d h : ℕ}
-        (e : _≡_ {A = Block TapsRecord} (record { refusal = n; clouded = d; state = with ss′ h; output = o }) (lentBlock F (fits capacity) before input output)) where
+        (e : _≡_ {A = Block TapsRecord} (record { refusal = n; clouded = d; state = with ss′ h; output = o }) (lentBlock F (fits maxTaps) before input output)) where
       pub fir-block-refused : (n ≡ 0 → ⊥) → _≡_ {A = Call} (record { refusal = n; numbers = ss′; counts = cs; answers = o; clouded = tally }) (blockCall (firKind ts) ss cs input output tally)
       fir-block-refused k =
-          let same : ss′ ≡ ss = ap (λ (r : TapsRecord). r .samples) (block-keeps F (fits capacity) before input output e k .0) in
+          let same : ss′ ≡ ss = ap (λ (r : TapsRecord). r .samples) (block-keeps F (fits maxTaps) before input output e k .0) in
           ap (λ (l : List Float). record { refusal = n; numbers = l; counts = cs; answers = o; clouded = tally }) same
           ∙ block-refused (firKind ts) ss cs input output tally single (e ∙ fir-lent-block input output) k
 
@@ -213,10 +214,10 @@ module _ (ts ss : List Float) (cs : List ℕ) where
           → _≡_ {A = Call} (record { refusal = Accepted; numbers = ss′; counts = set cs 1 h; answers = o; clouded = tally′ }) (blockCall (firKind ts) ss cs input output tally)
       fir-block-accepted k et = block-accepted (firKind ts) ss cs input output tally single (e ∙ fir-lent-block input output) k refl (counts-set ss′ h) et
 
-    module _ {ss′ : List Float} {n h : ℕ} (e : _≡_ {A = Reset TapsRecord} (record { refusal = n; state = with ss′ h }) (lentReset F (fits capacity) before)) where
+    module _ {ss′ : List Float} {n h : ℕ} (e : _≡_ {A = Reset TapsRecord} (record { refusal = n; state = with ss′ h }) (lentReset F (fits maxTaps) before)) where
       pub fir-reset-refused : (n ≡ 0 → ⊥) → notStored ss′ cs n ≡ resetCall (firKind ts) ss cs
       fir-reset-refused k =
-          let same : ss′ ≡ ss = ap (λ (r : TapsRecord). r .samples) (reset-keeps F (fits capacity) before e k) in
+          let same : ss′ ≡ ss = ap (λ (r : TapsRecord). r .samples) (reset-keeps F (fits maxTaps) before e k) in
           ap (λ (l : List Float). notStored l cs n) same ∙ reset-refused (firKind ts) ss cs (e ∙ fir-lent-reset) k
 
       pub fir-reset-accepted : n ≡ 0 → notStored ss′ (set cs 1 h) Accepted ≡ resetCall (firKind ts) ss cs

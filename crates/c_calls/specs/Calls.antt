@@ -9,7 +9,7 @@ use Rattle.runs.specs.Refusals.{Accepted, BadCall}
 use Rattle.runs.specs.Runs.{numberOf, isClouded, refusalOf, Step, Block}
 use Rattle.runs.specs.Lent.{lentStep, lentReset, lentBlock}
 use Rattle.fir_theory.specs.Fir.{Made, Blackman}
-use Rattle.fir_theory.specs.Lent.{capacity}
+use Rattle.limits.specs.Limits.{maxTaps}
 use Rattle.design_fir.specs.Fir.{firLp}
 use Rattle.design_fir.specs.declared.WindowType.{WindowType}
 use Rattle.design_cascade.specs.Design.{DesignRecord}
@@ -100,7 +100,7 @@ module _ (taps samples : List Float) (counts : List ℕ) where
   tapsUnchanged n = record { refusal = n; taps = taps; samples = samples; counts = counts }
 
   unfoldable pub tapsPlaces : Bool
-  tapsPlaces = eqb (length taps) capacity && (eqb (length samples) capacity && eqb (length counts) 3)
+  tapsPlaces = eqb (length taps) maxTaps && (eqb (length samples) maxTaps && eqb (length counts) 3)
 
   unfoldable pub madeCall : Made → TapsStored
   madeCall m =

@@ -9,7 +9,8 @@ use Rattle.runs.specs.Runs.{Filter}
 use Rattle.cascade_theory.specs.Cascade.{cascade}
 use Rattle.c_layout.specs.Layout.{cascadeAt, cascadeNumbers, cascadeCounts, cascadeFits}
 use Rattle.fir_theory.specs.Fir.{TapsRecord, fir}
-use Rattle.fir_theory.specs.Lent.{capacity, lentTaps, fits}
+use Rattle.limits.specs.Limits.{maxTaps}
+use Rattle.fir_theory.specs.Lent.{lentTaps, fits}
 
 -- ---- a tap record: taps, samples and 3 counts, which are the length, the held count and the window code
 
@@ -17,10 +18,10 @@ unfoldable pub tapsAt : List Float → List Float → List ℕ → TapsRecord
 tapsAt taps samples counts = lentTaps taps samples (getD counts 0 0) (getD counts 1 0) (getD counts 2 0)
 
 unfoldable pub tapsCounts : TapsRecord → List ℕ
-tapsCounts r = r .size ∷ r .held ∷ r .window ∷ []
+tapsCounts r = r .length ∷ r .held ∷ r .window ∷ []
 
 unfoldable pub tapsFit : List Float → List Float → List ℕ → Bool
-tapsFit taps samples counts = eqb (length counts) 3 && fits capacity (tapsAt taps samples counts)
+tapsFit taps samples counts = eqb (length counts) 3 && fits maxTaps (tapsAt taps samples counts)
 
 -- ---- either kind: its filter, and how a record stands in the two slices that a call may change
 pub record Kind : Type 1 where
@@ -35,4 +36,4 @@ cascadeKind = record { filter = cascade binary64; fit = cascadeFits; read = casc
 
 -- with these taps, which no call changes
 abbrev pub firKind : List Float → Kind
-firKind taps = record { filter = fir capacity binary64; fit = tapsFit taps; read = tapsAt taps; numbers = λ r. r .samples; counts = tapsCounts }
+firKind taps = record { filter = fir maxTaps binary64; fit = tapsFit taps; read = tapsAt taps; numbers = λ r. r .samples; counts = tapsCounts }

@@ -43,7 +43,12 @@ fn has_tap_places(taps: &[f64], samples: &[f64], counts: &[usize]) -> bool
 }
 
 // A tap record into slices: 0, or the number that refuses it.
-pub fn hand_out_taps(m: FirDesignResult, taps: &mut [f64], samples: &mut [f64], counts: &mut [usize]) -> u8
+pub fn hand_out_taps(
+    m: FirDesignResult,
+    taps: &mut [f64],
+    samples: &mut [f64],
+    counts: &mut [usize],
+) -> u8
     ensures { λ r. ⌜ record { refusal = r; taps = now (taps .exit); samples = now (samples .exit); counts = now (counts .exit) }
         ≡ madeCall (now (taps .entry)) (now (samples .entry)) (now (counts .entry)) (madeView m) ⌝ }
 {

@@ -1,7 +1,7 @@
 // The designs of both kinds, and ready-made taps, into slices.
 ghost use mathlib.Core.Path.{_≡_};
 ghost use Rattle.fir_theory.specs.Fir.{fromCoeffs};
-ghost use Rattle.fir_theory.specs.Lent.{capacity};
+ghost use Rattle.limits.specs.Limits.{maxTaps};
 ghost use Rattle.design_cascade.specs.LowPass.{butterworthLp, butterworthHp, chebyshev1Lp, chebyshev2Lp};
 ghost use Rattle.design_cascade.specs.BandPass.{butterworthBp};
 ghost use Rattle.c_calls.specs.Calls.{designCall, madeCall, firCall};
@@ -147,7 +147,7 @@ pub extern "C" fn pulse_fir_from_coeffs(
     counts: &mut [usize],
 ) -> u8
     ensures { λ r. ⌜ record { refusal = r; taps = now (taps .exit); samples = now (samples .exit); counts = now (counts .exit) }
-        ≡ madeCall (now (taps .entry)) (now (samples .entry)) (now (counts .entry)) (fromCoeffs capacity (now (coeffs .entry))) ⌝ }
+        ≡ madeCall (now (taps .entry)) (now (samples .entry)) (now (counts .entry)) (fromCoeffs maxTaps (now (coeffs .entry))) ⌝ }
 {
     hand_out_taps(TapRecord::from_coeffs(coeffs), taps, samples, counts)
 }

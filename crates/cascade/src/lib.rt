@@ -13,16 +13,16 @@ ghost use Rattle.pipeline.specs.View.{fourView};
 ghost use Rattle.cascade_theory.specs.Cascade.{value, moved, clouding, next, checkCascade, blankCascade, cascade};
 ghost use Rattle.cascade_theory.specs.Skewed.{listed, Skewable};
 ghost use Rattle.cascade.specs.View.{cascadeView, updatedView, resetView, blockView};
-use parts::enter;
-use parts::pass_sections;
-use parts::reset_sections;
 use pipeline::Four;
 use runs::Answer;
 use sections::FirstOrder;
 use sections::Section;
+use sections::enter;
+use sections::pass_sections;
+use sections::reset_sections;
 
 pub struct Cascade {
-    pub sections: [Section; 4],
+    pub sections: [Section; Cascade::MAX_SECTIONS],
     // How many of the sections are used, from section 0 on.
     pub count: usize,
     pub first: FirstOrder,
@@ -58,7 +58,7 @@ struct PassResult {
 }
 
 // The four sections by name, as crate pipeline has them.
-fn by_name(sections: [Section; 4]) -> Four
+fn by_name(sections: [Section; Cascade::MAX_SECTIONS]) -> Four
     ensures { λ r. ⌜ listed (fourView r) ≡ map sectionView sections ⌝ }
 {
     let s0 = sections[0];
@@ -80,14 +80,14 @@ fn clouds(before: Cascade, x: f64, y: f64, after: Cascade) -> bool
 
 impl Cascade {
     // How many sections there are.
-    pub const MAX_SECTIONS: usize = parts::MAX_SECTIONS;
+    pub const MAX_SECTIONS: usize = limits::MAX_SECTIONS;
 
     // What a refused design returns: counts 0, flags off, numbers +0.
     pub fn blank() -> Self
         ensures { λ r. ⌜ cascadeView r ≡ blankCascade ⌝ }
     {
         Cascade {
-            sections: [Section::blank(); 4],
+            sections: [Section::blank(); Cascade::MAX_SECTIONS],
             count: 0,
             first: FirstOrder::blank(),
             has_first: false,

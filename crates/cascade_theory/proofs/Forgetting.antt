@@ -6,7 +6,8 @@ use Prim.Native.Nat.{ℕ, zero, suc}
 use native.Mathlib.Omega.{arith}
 use lib.Ieee.{Float, Format}
 use lib.Ieee.Scale.{finite}
-use Rattle.runs.specs.Runs.{plusZero, marked, notAllFinite, Fresh, answer, reset}
+use Rattle.limits.specs.Zero.{plusZero}
+use Rattle.runs.specs.Runs.{marked, notAllFinite, Fresh, answer, reset}
 use Rattle.runs.specs.Forgetting.{Call, run}
 use Rattle.runs.proofs.Laws.{reset-fresh}
 use Rattle.runs.proofs.Forgetting as runs

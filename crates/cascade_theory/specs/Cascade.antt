@@ -5,6 +5,7 @@ use mathlib.Core.List.{List, [], _∷_, map}
 use lib.Dec.{leb, ltb}
 use lib.Ieee.{Float, Format}
 use lib.Ieee.Scale.{finite}
+use Rattle.limits.specs.Limits.{maxSections}
 use Rattle.runs.specs.Refusals.{BadCascade}
 use Rattle.runs.specs.Runs.{Filter}
 use Rattle.cascade_theory.specs.Section.{SectionRecord, blankSection, clearedSection}
@@ -24,7 +25,7 @@ blankCascade = record { sections = blankSection ∷ blankSection ∷ blankSectio
 
 -- 11 is given where there are more than 4 sections, or none and no first-order part
 unfoldable pub checkCascade : CascadeRecord → Bool
-checkCascade c = leb (c .count) 4 && (ltb 0 (c .count) || c .hasFirst)
+checkCascade c = leb (c .count) maxSections && (ltb 0 (c .count) || c .hasFirst)
 
 -- reset sets all carried values to +0 and clears the cloud flag
 unfoldable pub clearedCascade : CascadeRecord → CascadeRecord

@@ -1,6 +1,6 @@
 -- 01 "Section": the first-order part.
 use lib.Ieee.{Float, Format, add, sub, mul}
-use Rattle.runs.specs.Runs.{plusZero}
+use Rattle.limits.specs.Zero.{plusZero}
 use Rattle.cascade_theory.specs.Section.{one}
 
 pub record FirstOrderRecord : Type 0 where

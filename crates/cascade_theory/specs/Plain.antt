@@ -3,7 +3,8 @@ use Prim.Native.Nat.{ℕ, zero, suc}
 use mathlib.Core.Bool.{Bool, false, cond}
 use mathlib.Core.List.{List, [], _∷_, map, reverse}
 use lib.Ieee.{Float, Format}
-use Rattle.runs.specs.Runs.{plusZero, notAllFinite}
+use Rattle.limits.specs.Zero.{plusZero}
+use Rattle.runs.specs.Runs.{notAllFinite}
 use Rattle.runs.specs.Forgetting.{Plain, Call, Outcome, Forgets}
 use Rattle.cascade_theory.specs.Section.{SectionRecord, newSection, sectionOut, sectionNext}
 use Rattle.cascade_theory.specs.FirstOrder.{FirstOrderRecord, newFirst, firstOut, firstNext}

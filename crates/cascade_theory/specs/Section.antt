@@ -2,7 +2,7 @@
 use lib.IntN.{pos}
 use lib.Ieee.{Float, fin, Format, add, sub, mul}
 use mathlib.Core.Bool.{false}
-use Rattle.runs.specs.Runs.{plusZero}
+use Rattle.limits.specs.Zero.{plusZero}
 
 pub record SectionRecord : Type 0 where
   pub b0 : Float

@@ -5,7 +5,8 @@ use lib.Dec.{T}
 use lib.IntN.{ℤ}
 use lib.Ieee.{Float, fin, up, down}
 use lib.Ieee.Positive.{positive}
-use Rattle.scalar.specs.Constants.{plusZero, one, two, half, pi, epsilon}
+use Rattle.limits.specs.Zero.{plusZero}
+use Rattle.scalar.specs.Constants.{one, two, half, pi, epsilon}
 use Rattle.claims.specs.declared.Constants.{Constants}
 use Rattle.elementary.specs.Whole.{nearestOf, NearestWhole}
 use Rattle.logarithm.specs.Logarithm.{partsOf, Splits}

@@ -8,7 +8,7 @@ use Rattle.cascade.specs.View.{cascadeView}
 use Rattle.cascade.specs.declared.Cascade.{Cascade}
 use Rattle.fir_theory.specs.Plain.{FirForgets}
 use Rattle.fir_theory.specs.Fir.{fir}
-use Rattle.fir_theory.specs.Lent.{capacity}
+use Rattle.limits.specs.Limits.{maxTaps}
 use Rattle.fir.specs.View.{tapsView}
 use Rattle.fir.specs.declared.TapRecord.{TapRecord}
 
@@ -18,4 +18,4 @@ pub record CascadeRule (start : Cascade) : Type 0 where
 
 -- and at this tap record
 pub record FirRule (start : TapRecord) : Type 0 where
-  pub of : (calls : List Call) → FirForgets capacity binary64 (tapsView start) calls (run (fir capacity binary64) (tapsView start) calls)
+  pub of : (calls : List Call) → FirForgets maxTaps binary64 (tapsView start) calls (run (fir maxTaps binary64) (tapsView start) calls)

@@ -8,7 +8,7 @@ use Rattle.runs.specs.Runs.{reset}
 use Rattle.cascade_theory.specs.Cascade.{CascadeRecord, cascade}
 use Rattle.cascade.specs.View.{FreshCascade}
 use Rattle.fir_theory.specs.Fir.{TapsRecord, fir, fromCoeffs}
-use Rattle.fir_theory.specs.Lent.{capacity}
+use Rattle.limits.specs.Limits.{maxTaps}
 use Rattle.fir.specs.View.{FreshTaps}
 use Rattle.design_cascade.specs.LowPass.{butterworthLp, butterworthHp, chebyshev1Lp, chebyshev2Lp}
 use Rattle.design_cascade.specs.BandPass.{butterworthBp}
@@ -28,9 +28,9 @@ pub record AcceptedIsFresh : Type 0 where
   pub chebyshevII : (n : ℕ) (cutoff db rate : Float) → chebyshev2Lp n cutoff db rate .refusal ≡ 0 → FreshCascade (chebyshev2Lp n cutoff db rate .cascade)
   pub bandPass : (n : ℕ) (low high rate : Float) → butterworthBp n low high rate .refusal ≡ 0 → FreshCascade (butterworthBp n low high rate .cascade)
   pub firLowPass : (n : ℕ) (cutoff : Float) (window : WindowType) → firLp n cutoff window .refusal ≡ 0 → FreshTaps (firLp n cutoff window .filter)
-  pub readyMade : (taps : List Float) → fromCoeffs capacity taps .refusal ≡ 0 → FreshTaps (fromCoeffs capacity taps .filter)
+  pub readyMade : (taps : List Float) → fromCoeffs maxTaps taps .refusal ≡ 0 → FreshTaps (fromCoeffs maxTaps taps .filter)
   pub cascadeReset : (c : CascadeRecord) → reset (cascade binary64) c .refusal ≡ 0 → FreshCascade (reset (cascade binary64) c .state)
-  pub firReset : (r : TapsRecord) → reset (fir capacity binary64) r .refusal ≡ 0 → FreshTaps (reset (fir capacity binary64) r .state)
+  pub firReset : (r : TapsRecord) → reset (fir maxTaps binary64) r .refusal ≡ 0 → FreshTaps (reset (fir maxTaps binary64) r .state)
 
 -- ---- through the C library: what an accepted call that makes a filter leaves in the slices fits, and is fresh. Each premise is the call's contract, word for word.
 abbrev pub CascadeMade : DesignRecord → Type 0
@@ -48,4 +48,4 @@ pub record CMadeIsFresh : Type 0 where
   pub chebyshevII : (n : ℕ) (cutoff db rate : Float) → CascadeMade (chebyshev2Lp n cutoff db rate)
   pub bandPass : (n : ℕ) (low high rate : Float) → CascadeMade (butterworthBp n low high rate)
   pub firLowPass : (n : ℕ) (cutoff : Float) (window : ℕ) → TapsMade (λ taps samples counts. firCall taps samples counts n cutoff window)
-  pub readyMade : (coeffs : List Float) → TapsMade (λ taps samples counts. madeCall taps samples counts (fromCoeffs capacity coeffs))
+  pub readyMade : (coeffs : List Float) → TapsMade (λ taps samples counts. madeCall taps samples counts (fromCoeffs maxTaps coeffs))

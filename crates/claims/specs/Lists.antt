@@ -14,7 +14,7 @@ use Rattle.cascade.specs.declared.UpdateResult.{UpdateResult}
 use Rattle.cascade.specs.declared.ResetResult.{ResetResult}
 use Rattle.cascade.specs.declared.BlockResult.{BlockResult}
 use Rattle.fir_theory.specs.Fir.{fir}
-use Rattle.fir_theory.specs.Lent.{capacity}
+use Rattle.limits.specs.Limits.{maxTaps}
 use Rattle.fir.specs.View.{tapsView}
 use Rattle.fir.specs.View as FirView
 use Rattle.fir.specs.declared.TapRecord.{TapRecord}
@@ -44,13 +44,13 @@ pub data CascadeCalls : Cascade → List Call → List Outcome → Type 0 where
 pub data FirCalls : TapRecord → List Call → List Outcome → Type 0 where
   firEnded : (self : TapRecord) → FirCalls self [] []
   firUpdateCalled : (self : TapRecord) (x : Float) (r : FirUpdateResult) (calls : List Call) (outcomes : List Outcome)
-      → FirView.updatedView r ≡ Runs.step (fir capacity binary64) (tapsView self) x
+      → FirView.updatedView r ≡ Runs.step (fir maxTaps binary64) (tapsView self) x
       → FirCalls (r .filter) calls outcomes → FirCalls self (step x ∷ calls) (stepped (answerView (r .answer)) ∷ outcomes)
   firBlockCalled : (self : TapRecord) (input output output′ : List Float) (r : FirBlockResult) (calls : List Call) (outcomes : List Outcome)
-      → FirView.blockView r output′ ≡ Runs.block (fir capacity binary64) (tapsView self) input output
+      → FirView.blockView r output′ ≡ Runs.block (fir maxTaps binary64) (tapsView self) input output
       → FirCalls (r .filter) calls outcomes → FirCalls self (block input output ∷ calls) (blocked (r .refusal) (r .clouded) output′ ∷ outcomes)
   firResetCalled : (self : TapRecord) (r : FirResetResult) (calls : List Call) (outcomes : List Outcome)
-      → FirView.resetView r ≡ Runs.reset (fir capacity binary64) (tapsView self)
+      → FirView.resetView r ≡ Runs.reset (fir maxTaps binary64) (tapsView self)
       → FirCalls (r .filter) calls outcomes → FirCalls self (reset ∷ calls) (wasReset (r .refusal) ∷ outcomes)
 
 -- every such list shows what `run` says, and meets demand 3
@@ -59,8 +59,8 @@ pub record CascadeCallsRule (start : Cascade) : Type 0 where
   pub forgets : (calls : List Call) (outcomes : List Outcome) → CascadeCalls start calls outcomes → CascadeForgets binary64 (cascadeView start) calls outcomes
 
 pub record FirCallsRule (start : TapRecord) : Type 0 where
-  pub shows : (calls : List Call) (outcomes : List Outcome) → FirCalls start calls outcomes → outcomes ≡ run (fir capacity binary64) (tapsView start) calls
-  pub forgets : (calls : List Call) (outcomes : List Outcome) → FirCalls start calls outcomes → FirForgets capacity binary64 (tapsView start) calls outcomes
+  pub shows : (calls : List Call) (outcomes : List Outcome) → FirCalls start calls outcomes → outcomes ≡ run (fir maxTaps binary64) (tapsView start) calls
+  pub forgets : (calls : List Call) (outcomes : List Outcome) → FirCalls start calls outcomes → FirForgets maxTaps binary64 (tapsView start) calls outcomes
 
 -- ---- the C library: lists of its steps, blocks, blocks in place and resets on one state, whatever the slices hold and however long they are
 pub record CCascadeRule : Type 0 where
@@ -71,6 +71,6 @@ pub record CCascadeRule : Type 0 where
 
 pub record CFirRule : Type 0 where
   pub shows : (taps samples : List Float) (counts : List ℕ) (calls : List Call) (outcomes : List Outcome) → CCalls (firKind taps) samples counts calls outcomes
-      → outcomes ≡ run (fir capacity binary64) (tapsAt taps samples counts) calls
+      → outcomes ≡ run (fir maxTaps binary64) (tapsAt taps samples counts) calls
   pub forgets : (taps samples : List Float) (counts : List ℕ) (calls : List Call) (outcomes : List Outcome) → CCalls (firKind taps) samples counts calls outcomes
-      → FirForgets capacity binary64 (tapsAt taps samples counts) calls outcomes
+      → FirForgets maxTaps binary64 (tapsAt taps samples counts) calls outcomes

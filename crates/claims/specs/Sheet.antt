@@ -11,7 +11,7 @@ use Rattle.cascade_theory.specs.Section.{SectionRecord, sectionOut, sectionNext
 use Rattle.cascade_theory.specs.FirstOrder.{FirstOrderRecord, firstOut, firstNext}
 use Rattle.design_poles.specs.Butterworth.{lpBiquad, hpBiquad, lpFirst, hpFirst}
 use Rattle.fir_theory.specs.Fir.{TapsRecord, fir, fromCoeffs}
-use Rattle.fir_theory.specs.Lent.{capacity}
+use Rattle.limits.specs.Limits.{maxTaps}
 use Rattle.design_cascade.specs.LowPass.{butterworthLp}
 use Rattle.design_cascade.specs.BandPass.{butterworthBp}
 use Rattle.design_fir.specs.Fir.{firLp}
@@ -43,7 +43,7 @@ answerNumbers (refused n) = 2 ∷ n ∷ []
 
 abbrev pub tapAnswers : TapsRecord → List Float → List ℕ
 tapAnswers r [] = []
-tapAnswers r (x ∷ xs) = answerNumbers (step (fir capacity binary64) r x .answer) ++ tapAnswers (step (fir capacity binary64) r x .state) xs
+tapAnswers r (x ∷ xs) = answerNumbers (step (fir maxTaps binary64) r x .answer) ++ tapAnswers (step (fir maxTaps binary64) r x .state) xs
 
 -- the sheet's numbers by their patterns
 abbrev pub half : ℕ
@@ -70,7 +70,7 @@ blockNumbers b = b .refusal ∷ patterns (b .output)
 
 -- the taps of row 7
 abbrev pub twoTaps : TapsRecord
-twoTaps = fromCoeffs capacity ((nat 1 ⊘ nat 2) ∷ (nat 1 ⊘ nat 4) ∷ []) .filter
+twoTaps = fromCoeffs maxTaps ((nat 1 ⊘ nat 2) ∷ (nat 1 ⊘ nat 4) ∷ []) .filter
 
 pub record Row : Type 0 where
   pub number : ℕ
@@ -105,7 +105,7 @@ sheet cutoff window p q =
     ∷ row 12 (firLp 0 (nat 3 ⊘ nat 5) window .refusal ∷ firLp 65 (nat 3 ⊘ nat 5) window .refusal ∷ []) (1 ∷ 1 ∷ [])
     ∷ row 13 (patterns (sqrtOf binary64 (nat 4) ∷ sqrtOf binary64 (nat 2) ∷ [])) (two ∷ 0x3FF6A09E667F3BCD ∷ [])
     -- 14. Three samples into an output of two: 5, both places kept
-    ∷ row 14 (blockNumbers (block (fir capacity binary64) twoTaps (nat 4 ∷ nat 8 ∷ nat 4 ∷ []) (p ∷ q ∷ []))) (5 ∷ patterns (p ∷ q ∷ []))
+    ∷ row 14 (blockNumbers (block (fir maxTaps binary64) twoTaps (nat 4 ∷ nat 8 ∷ nat 4 ∷ []) (p ∷ q ∷ []))) (5 ∷ patterns (p ∷ q ∷ []))
     ∷ []
 
 -- the numbers of its rows

@@ -3,7 +3,8 @@ use mathlib.Core.Bool.{cond}
 use lib.Ieee.{Float, binary64, neg, lt, le}
 use Rattle.ieee.specs.Sqrt.{sqrtOf}
 use Rattle.scalar.specs.Operators.{_⊕_, _⊖_, _⊗_, _⊘_}
-use Rattle.scalar.specs.Constants.{plusZero, one, two, half}
+use Rattle.limits.specs.Zero.{plusZero}
+use Rattle.scalar.specs.Constants.{one, two, half}
 use Rattle.scalar.specs.Sign.{absOf}
 use Rattle.cascade_theory.specs.Section.{SectionRecord, newSection}
 
@@ -22,11 +23,11 @@ unfoldable pub imaginaryRoot : Float → Float → Float
 imaginaryRoot dIm rootRe = cond (lt plusZero (absOf dIm)) (dIm ⊘ (two ⊗ rootRe)) plusZero
 
 -- the two sections of a pole pair σ ± jω of the low-pass prototype: poles (bw/2)·s ± √D, D = ((bw/2)·s)² − ω0²
-pub record BiquadPair : Type 0 where
+pub record SectionPairRecord : Type 0 where
   pub bq1 : SectionRecord
   pub bq2 : SectionRecord
 
-unfoldable pub bpPair : Float → Float → Float → Float → BiquadPair
+unfoldable pub bpPair : Float → Float → Float → Float → SectionPairRecord
 bpPair sigma omega bw w0 =
     let h = bw ⊗ half in
     let p = h ⊗ sigma in

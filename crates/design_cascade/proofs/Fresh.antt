@@ -12,7 +12,8 @@ use Rattle.cascade_theory.specs.FirstOrder.{blankFirst, clearedFirst}
 use Rattle.cascade_theory.specs.Cascade.{CascadeRecord, checkCascade, clearedCascade}
 use Rattle.cascade.specs.View.{FreshCascade}
 use Rattle.scalar.specs.Operators.{_⊖_, _⊗_}
-use Rattle.scalar.specs.Constants.{plusZero, half}
+use Rattle.limits.specs.Zero.{plusZero}
+use Rattle.scalar.specs.Constants.{half}
 use Rattle.design_checks.specs.Checks.{validateParams, validateChebyshev, validateBand}
 use Rattle.design_checks.specs.Lists.{upTo}
 use Rattle.design_checks.proofs.Laws.{good-params, good-chebyshev, good-band}

@@ -4,18 +4,19 @@ use mathlib.Core.Bool.{false, cond}
 use mathlib.Core.List.{List, [], _∷_, _++_}
 use lib.Dec.{eqb}
 use lib.Ieee.{Float}
+use Rattle.limits.specs.Limits.{maxSections}
 use Rattle.scalar.specs.Operators.{_⊖_, _⊗_}
 use Rattle.elementary.specs.Trigonometric.{sinOf, cosOf}
 use Rattle.cascade_theory.specs.Section.{SectionRecord}
 use Rattle.cascade_theory.specs.FirstOrder.{blankFirst}
 use Rattle.cascade_theory.specs.Cascade.{CascadeRecord}
-use Rattle.design_bandpass.specs.BandPass.{BiquadPair, bpPair, bpReal}
+use Rattle.design_bandpass.specs.BandPass.{SectionPairRecord, bpPair, bpReal}
 use Rattle.design_checks.specs.Checks.{validateBand}
 use Rattle.design_cascade.specs.Design.{DesignRecord, unlessRefused, padded}
 use Rattle.design_cascade.specs.Butterworth.{warped, angleOf}
 
 -- ---- order N gives N sections: two for each pole pair, one for the real pole of an odd N
-unfoldable pub bpPairOf : ℕ → Float → Float → ℕ → BiquadPair
+unfoldable pub bpPairOf : ℕ → Float → Float → ℕ → SectionPairRecord
 bpPairOf n bw w0 m = bpPair (cosOf (angleOf n m)) (sinOf (angleOf n m)) bw w0
 
 unfoldable pub bpUpTo : ℕ → Float → Float → ℕ → List SectionRecord
@@ -28,7 +29,7 @@ bpSections n bw w0 = cond (eqb (n % 2) 0) (bpUpTo n bw w0 (n / 2)) (bpUpTo n bw 
 -- bandwidth ωh − ωl, and ω0² = ωl × ωh
 unfoldable pub bpCascade : ℕ → Float → Float → CascadeRecord
 bpCascade n wl wh = record {
-  sections = padded 4 (bpSections n (wh ⊖ wl) (wl ⊗ wh));
+  sections = padded maxSections (bpSections n (wh ⊖ wl) (wl ⊗ wh));
   count = n;
   first = blankFirst;
   hasFirst = false;

@@ -3,6 +3,7 @@ use Prim.Native.Nat.{ℕ, _/_, _%_}
 use mathlib.Core.Bool.{false, cond}
 use lib.Dec.{eqb}
 use lib.Ieee.{neg}
+use Rattle.limits.specs.Limits.{maxSections}
 use Rattle.scalar.specs.Operators.{_⊘_}
 use Rattle.scalar.specs.Constants.{one}
 use Rattle.cascade_theory.specs.Section.{SectionRecord}
@@ -37,7 +38,7 @@ firstOf p n = cond (eqb (n % 2) 0) blankFirst (realPart p)
 
 unfoldable pub prototypeCascade : Prototype → ℕ → CascadeRecord
 prototypeCascade p n = record {
-  sections = padded 4 (upTo (pairOf p n) (n / 2));
+  sections = padded maxSections (upTo (pairOf p n) (n / 2));
   count = n / 2;
   first = firstOf p n;
   hasFirst = eqb (n % 2) 1;

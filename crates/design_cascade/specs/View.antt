@@ -2,10 +2,10 @@
 use Rattle.cascade.specs.View.{cascadeView}
 use Rattle.design_cascade.specs.Design.{DesignRecord}
 use Rattle.design_cascade.specs.Chebyshev.{PolePairRecord}
-use Rattle.design_cascade.specs.declared.returned.Design.{Design}
+use Rattle.design_cascade.specs.declared.returned.CascadeDesignResult.{CascadeDesignResult}
 use Rattle.design_cascade.specs.declared.chebyshev.PolePair.{PolePair}
 
-abbrev pub designView : Design → DesignRecord
+abbrev pub designView : CascadeDesignResult → DesignRecord
 designView d = record { refusal = d .refusal; cascade = cascadeView (d .cascade) }
 
 abbrev pub polePairView : PolePair → PolePairRecord

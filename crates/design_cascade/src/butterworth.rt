@@ -141,7 +141,12 @@ fn bp_cascade(order: usize, omega_l: f64, omega_h: f64) -> Cascade
 }
 
 // A band pass of order 1 to 4: as many sections.
-pub fn design_butterworth_bp(order: usize, low: f64, high: f64, sample_rate: f64) -> CascadeDesignResult
+pub fn design_butterworth_bp(
+    order: usize,
+    low: f64,
+    high: f64,
+    sample_rate: f64,
+) -> CascadeDesignResult
     ensures { λ r. ⌜ designView r ≡ butterworthBp order low high «sample_rate» ⌝ }
 {
     let refusal = validate_band(low, high, sample_rate, order);

@@ -98,7 +98,12 @@ fn chebyshev2_prototype(order: usize, stopband_db: f64, k: f64) -> Prototype
 }
 
 // A type I low pass of order 1 to 8, with its ripple in decibels.
-pub fn design_chebyshev1_lp(order: usize, cutoff: f64, ripple_db: f64, sample_rate: f64) -> CascadeDesignResult
+pub fn design_chebyshev1_lp(
+    order: usize,
+    cutoff: f64,
+    ripple_db: f64,
+    sample_rate: f64,
+) -> CascadeDesignResult
     ensures { λ r. ⌜ designView r ≡ chebyshev1Lp order cutoff «ripple_db» «sample_rate» ⌝ }
 {
     let refusal = validate_chebyshev(cutoff, ripple_db, sample_rate, order);
@@ -110,7 +115,12 @@ pub fn design_chebyshev1_lp(order: usize, cutoff: f64, ripple_db: f64, sample_ra
 }
 
 // A type II low pass of order 1 to 8, with its stop band's attenuation in decibels.
-pub fn design_chebyshev2_lp(order: usize, cutoff: f64, stopband_db: f64, sample_rate: f64) -> CascadeDesignResult
+pub fn design_chebyshev2_lp(
+    order: usize,
+    cutoff: f64,
+    stopband_db: f64,
+    sample_rate: f64,
+) -> CascadeDesignResult
     ensures { λ r. ⌜ designView r ≡ chebyshev2Lp order cutoff «stopband_db» «sample_rate» ⌝ }
 {
     let refusal = validate_chebyshev(cutoff, stopband_db, sample_rate, order);

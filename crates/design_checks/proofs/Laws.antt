@@ -8,7 +8,7 @@ use lib.IntN.{pos}
 use lib.Ieee.{Float, binary64, inFloat}
 use Rattle.runs.specs.Refusals.{InvalidOrder, orderRefused}
 use Rattle.runs.proofs.Laws.{good-order}
-use Rattle.fir_theory.specs.Lent.{capacity}
+use Rattle.limits.specs.Limits.{maxTaps}
 use Rattle.design_checks.specs.Checks.{validateParams, validateChebyshev, validateBand, validateFir}
 
 -- parameters that pass have a good order: it is tested first, whatever is tested after it
@@ -31,9 +31,9 @@ pub good-band : (low high rate : Float) (n : ℕ) → validateBand low high rate
 unfolding validateBand
 good-band low high rate n e = good-order n 4 (first-passed (orderRefused n 4) _ e)
 
-pub good-fir : (n : ℕ) (cutoff : Float) → validateFir n cutoff ≡ 0 → (0 < n) × (n ≤ capacity)
+pub good-fir : (n : ℕ) (cutoff : Float) → validateFir n cutoff ≡ 0 → (0 < n) × (n ≤ maxTaps)
 unfolding validateFir
-good-fir n cutoff e = good-order n capacity (first-passed (orderRefused n capacity) _ e)
+good-fir n cutoff e = good-order n maxTaps (first-passed (orderRefused n maxTaps) _ e)
 
 -- ---- a whole number that an f64 holds
 pub small-float : (n : ℕ) → n ≤ 100 → T (inFloat binary64 (pos n))

@@ -4,9 +4,10 @@ use Prim.Native.Nat.{ℕ}
 use mathlib.Core.Bool.{Bool, cond, _||_}
 use lib.Ieee.{Float, isNan, le}
 use Rattle.scalar.specs.Operators.{_⊗_}
-use Rattle.scalar.specs.Constants.{half, plusZero}
+use Rattle.limits.specs.Zero.{plusZero}
+use Rattle.scalar.specs.Constants.{half}
 use Rattle.runs.specs.Refusals.{Accepted, InvalidOrder, InvalidFrequency, InvalidSampleRate, InvalidRipple, orderRefused}
-use Rattle.fir_theory.specs.Lent.{capacity}
+use Rattle.limits.specs.Limits.{maxOrder, maxBandOrder, maxTaps}
 
 -- NaN or at most 0
 unfoldable pub notPositive : Float → Bool
@@ -31,7 +32,7 @@ bandRefused low high r = isNan low || (isNan high || (le low plusZero || (le hig
 -- 1, 3, 2, and what comes after them
 abbrev pub checksThen : Float → Float → ℕ → ℕ → ℕ
 checksThen cutoff rate n next =
-    cond (orderRefused n 8) InvalidOrder
+    cond (orderRefused n maxOrder) InvalidOrder
     (cond (rateRefused rate) InvalidSampleRate
     (cond (cutoffRefused cutoff (rate ⊗ half)) InvalidFrequency next))
 
@@ -46,12 +47,12 @@ validateChebyshev cutoff db rate n = checksThen cutoff rate n (cond (rippleRefus
 -- band pass: 1, 2, 3
 unfoldable pub validateBand : Float → Float → Float → ℕ → ℕ
 validateBand low high rate n =
-    cond (orderRefused n 4) InvalidOrder
+    cond (orderRefused n maxBandOrder) InvalidOrder
     (cond (bandRefused low high rate) InvalidFrequency
     (cond (rateRefused rate) InvalidSampleRate Accepted))
 
 -- FIR: 1, 2, the limit of its cutoff being 0.5
 unfoldable pub validateFir : ℕ → Float → ℕ
 validateFir n cutoff =
-    cond (orderRefused n capacity) InvalidOrder
+    cond (orderRefused n maxTaps) InvalidOrder
     (cond (cutoffRefused cutoff half) InvalidFrequency Accepted)

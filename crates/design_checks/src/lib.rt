@@ -3,12 +3,9 @@
 ghost use mathlib.Core.Path.{_≡_};
 ghost use Rattle.runs.specs.Refusals.{orderRefused};
 ghost use Rattle.design_checks.specs.Checks.{notPositive, cutoffRefused, bandRefused, validateParams, validateBand, validateChebyshev, validateFir};
-use fir::TapRecord;
-
-// The largest orders.
-const MAX_ORDER: usize = 8;
-
-const MAX_BAND_ORDER: usize = 4;
+use limits::MAX_BAND_ORDER;
+use limits::MAX_ORDER;
+use limits::MAX_TAPS;
 
 // 1: order 0 or above the most.
 fn order_refused(order: usize, most: usize) -> bool
@@ -113,7 +110,7 @@ pub fn validate_band(low: f64, high: f64, sample_rate: f64, order: usize) -> u8
 pub fn validate_fir(taps: usize, cutoff: f64) -> u8
     ensures { λ r. ⌜ r ≡ validateFir taps cutoff ⌝ }
 {
-    if order_refused(taps, TapRecord::MAX_TAPS) {
+    if order_refused(taps, MAX_TAPS) {
         return runs::INVALID_ORDER;
     }
     if cutoff_refused(cutoff, 0.5) {

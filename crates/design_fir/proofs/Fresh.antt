@@ -7,7 +7,7 @@ use lib.Dec.{eqb}
 use lib.Ieee.{Float, binary64}
 use borrow.Author.Tests.{eqb-true, eqb-false}
 use Rattle.fir_theory.specs.Fir.{Made, blankTaps, holding}
-use Rattle.fir_theory.specs.Lent.{capacity}
+use Rattle.limits.specs.Limits.{maxTaps}
 use Rattle.fir.specs.View.{FreshTaps}
 use Rattle.fir_theory.proofs.Fresh.{holding-fresh}
 use Rattle.design_checks.specs.Checks.{validateFir}
@@ -28,11 +28,11 @@ unfolding firLp
 fir-fresh n cutoff w = go (eqb (validateFir n cutoff) 0) refl
   where
     made : Bool → Made
-    made b = cond b (record { refusal = 0; filter = holding capacity (firTaps w n cutoff) (codeOf w) }) (record { refusal = validateFir n cutoff; filter = blankTaps capacity })
+    made b = cond b (record { refusal = 0; filter = holding maxTaps (firTaps w n cutoff) (codeOf w) }) (record { refusal = validateFir n cutoff; filter = blankTaps maxTaps })
 
     go : (b : Bool) → eqb (validateFir n cutoff) 0 ≡ b → made b .refusal ≡ 0 → FreshTaps (made b .filter)
     go true e r =
         let p = good-fir n cutoff (eqb-true (validateFir n cutoff) 0 e) in
         let l = taps-length w n cutoff in
-        holding-fresh capacity binary64 (firTaps w n cutoff) (codeOf w) (omega (arith, l, p)) (omega (arith, l, p)) (code-in w)
+        holding-fresh maxTaps binary64 (firTaps w n cutoff) (codeOf w) (omega (arith, l, p)) (omega (arith, l, p)) (code-in w)
     go false e r = absurd (eqb-false (validateFir n cutoff) 0 e r)

@@ -9,7 +9,8 @@ use lib.ListN.{length, take, drop, getD, set, replicate, length-take, length-map
 use lib.Seq.{drop-cons, take-suc, set-at, getD-at, getD-take, take-at, drop-at, length-take-le}
 use lib.Ieee.{Float, nan, lt}
 use Rattle.scalar.specs.Operators.{_⊕_, _⊘_}
-use Rattle.scalar.specs.Constants.{plusZero, epsilon}
+use Rattle.limits.specs.Zero.{plusZero}
+use Rattle.scalar.specs.Constants.{epsilon}
 use Rattle.scalar.specs.Sign.{absOf}
 use Rattle.design_checks.specs.Checks.{validateFir}
 use Rattle.design_checks.specs.Lists.{upTo}
@@ -20,7 +21,7 @@ use borrow.Author.Tests.{eq-eqb, ne-eqb}
 use lib.Ieee.{ofBits}
 use Rattle.runs.specs.Refusals.{Accepted}
 use Rattle.fir_theory.specs.Fir.{TapsRecord, Made, zeros, blankTaps, holding}
-use Rattle.fir_theory.specs.Lent.{capacity}
+use Rattle.limits.specs.Limits.{maxTaps}
 
 -- ---- the loop that makes the taps: the first i are in place
 abbrev pub Making : (ℕ → Float) → ℕ → List Float → ℕ → Type 0
@@ -107,12 +108,12 @@ taps-done w n most cutoff {l} {m} p q =
 
 -- ---- what the design shows where it returns
 module _ (n : ℕ) (cutoff : Float) (w : WindowType) where
-  pub fir-refused : {v : ℕ} {r : TapsRecord} → v ≡ validateFir n cutoff → (v ≡ 0 → ⊥) → r ≡ blankTaps capacity → _≡_ {A = Made} (record { refusal = v; filter = r }) (firLp n cutoff w)
+  pub fir-refused : {v : ℕ} {r : TapsRecord} → v ≡ validateFir n cutoff → (v ≡ 0 → ⊥) → r ≡ blankTaps maxTaps → _≡_ {A = Made} (record { refusal = v; filter = r }) (firLp n cutoff w)
   unfolding firLp
   fir-refused {v} {r} e h b = rw (← e, ne-eqb v 0 h, b)
 
-  pub fir-accepted : {v code : ℕ} {l s : List Float} → v ≡ validateFir n cutoff → v ≡ 0 → s ≡ zeros capacity
-      → l ≡ firTaps w n cutoff ++ replicate (capacity - length (firTaps w n cutoff)) plusZero → code ≡ codeOf w
-      → _≡_ {A = Made} (record { refusal = Accepted; filter = record { taps = l; samples = s; size = n; held = 0; window = code } }) (firLp n cutoff w)
+  pub fir-accepted : {v code : ℕ} {l s : List Float} → v ≡ validateFir n cutoff → v ≡ 0 → s ≡ zeros maxTaps
+      → l ≡ firTaps w n cutoff ++ replicate (maxTaps - length (firTaps w n cutoff)) plusZero → code ≡ codeOf w
+      → _≡_ {A = Made} (record { refusal = Accepted; filter = record { taps = l; samples = s; length = n; held = 0; window = code } }) (firLp n cutoff w)
   unfolding firLp holding ofBits
   fir-accepted {v} {code} {l} {s} e z es el ec = rw (← e, eq-eqb v 0 z, el, es, ec, taps-length w n cutoff)

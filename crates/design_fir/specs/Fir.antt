@@ -5,12 +5,13 @@ use mathlib.Core.List.{List, [], _∷_, map}
 use lib.Dec.{eqb}
 use lib.Ieee.{Float, eq, lt}
 use Rattle.scalar.specs.Operators.{_⊕_, _⊖_, _⊗_, _⊘_, bits, nat}
-use Rattle.scalar.specs.Constants.{plusZero, one, two, half, pi, epsilon}
+use Rattle.limits.specs.Zero.{plusZero}
+use Rattle.scalar.specs.Constants.{one, two, half, pi, epsilon}
 use Rattle.scalar.specs.Sign.{absOf}
 use Rattle.elementary.specs.Trigonometric.{sinOf, cosOf}
 use Rattle.runs.specs.Refusals.{Accepted}
 use Rattle.fir_theory.specs.Fir.{Rectangular, Hamming, Hanning, Blackman, Made, blankTaps, holding}
-use Rattle.fir_theory.specs.Lent.{capacity}
+use Rattle.limits.specs.Limits.{maxTaps}
 use Rattle.design_checks.specs.Checks.{validateFir}
 use Rattle.design_checks.specs.Lists.{upTo}
 use Rattle.design_fir.specs.declared.WindowType.{WindowType}
@@ -57,5 +58,5 @@ firTaps w n cutoff =
 unfoldable pub firLp : ℕ → Float → WindowType → Made
 firLp n cutoff w =
     let v = validateFir n cutoff in
-    cond (eqb v Accepted) (record { refusal = Accepted; filter = holding capacity (firTaps w n cutoff) (codeOf w) })
-    (record { refusal = v; filter = blankTaps capacity })
+    cond (eqb v Accepted) (record { refusal = Accepted; filter = holding maxTaps (firTaps w n cutoff) (codeOf w) })
+    (record { refusal = v; filter = blankTaps maxTaps })

@@ -4,8 +4,8 @@ ghost use mathlib.Core.List.{map, _++_};
 ghost use Prim.Native.Nat.{_<_, _≤_, _-_};
 ghost use lib.ListN.{length, take, drop, replicate};
 ghost use Rattle.scalar.specs.Operators.{_⊘_};
-ghost use Rattle.scalar.specs.Constants.{plusZero};
-ghost use Rattle.fir_theory.specs.Lent.{capacity};
+ghost use Rattle.limits.specs.Zero.{plusZero};
+ghost use Rattle.limits.specs.Limits.{maxTaps};
 ghost use Rattle.fir.specs.View.{madeView};
 ghost use Rattle.design_checks.specs.Lists.{upTo};
 ghost use Rattle.design_fir.specs.Fir.{codeOf, weightOf, sincOf, tapOf, totalFrom, normalisedBy, firLp};
@@ -61,7 +61,7 @@ fn sinc(cutoff: f64, n: f64) -> f64
 
 // Tap i, before all are divided by their sum.
 fn tap(window: WindowType, taps: usize, cutoff: f64, i: usize) -> f64
-    requires { ⌜ 0 < taps ⌝ ∗ ⌜ taps ≤ capacity ⌝ ∗ ⌜ i < capacity ⌝ }
+    requires { ⌜ 0 < taps ⌝ ∗ ⌜ taps ≤ maxTaps ⌝ ∗ ⌜ i < maxTaps ⌝ }
     ensures { λ r. ⌜ r ≡ tapOf window taps cutoff i ⌝ }
 {
     let i_f = i as f64;
@@ -73,8 +73,8 @@ fn tap(window: WindowType, taps: usize, cutoff: f64, i: usize) -> f64
 
 // All of them in front, +0 behind.
 fn windowed(window: WindowType, taps: usize, cutoff: f64) -> [f64; TapRecord::MAX_TAPS]
-    requires { ⌜ 0 < taps ⌝ ∗ ⌜ taps ≤ capacity ⌝ }
-    ensures { λ r. ⌜ r ≡ upTo (tapOf window taps cutoff) taps ++ replicate (capacity - taps) plusZero ⌝ }
+    requires { ⌜ 0 < taps ⌝ ∗ ⌜ taps ≤ maxTaps ⌝ }
+    ensures { λ r. ⌜ r ≡ upTo (tapOf window taps cutoff) taps ++ replicate (maxTaps - taps) plusZero ⌝ }
 {
     let mut coeffs = [0.0; TapRecord::MAX_TAPS];
     let mut i: usize = 0;
@@ -87,7 +87,7 @@ fn windowed(window: WindowType, taps: usize, cutoff: f64) -> [f64; TapRecord::MA
 
 // The sum of the first n.
 fn sum_of(coeffs: [f64; TapRecord::MAX_TAPS], n: usize) -> f64
-    requires { ⌜ n ≤ capacity ⌝ }
+    requires { ⌜ n ≤ maxTaps ⌝ }
     ensures { λ r. ⌜ r ≡ totalFrom plusZero (take n coeffs) ⌝ }
 {
     let mut sum = 0.0;
@@ -101,7 +101,7 @@ fn sum_of(coeffs: [f64; TapRecord::MAX_TAPS], n: usize) -> f64
 
 // The first n divided by the sum.
 fn divided(coeffs: [f64; TapRecord::MAX_TAPS], n: usize, sum: f64) -> [f64; TapRecord::MAX_TAPS]
-    requires { ⌜ n ≤ capacity ⌝ }
+    requires { ⌜ n ≤ maxTaps ⌝ }
     ensures { λ r. ⌜ r ≡ map (λ c. c ⊘ sum) (take n coeffs) ++ drop n coeffs ⌝ }
 {
     let mut kept = coeffs;
@@ -116,7 +116,7 @@ fn divided(coeffs: [f64; TapRecord::MAX_TAPS], n: usize, sum: f64) -> [f64; TapR
 
 // The first n divided by their sum, where its magnitude exceeds EPSILON.
 fn normalised(coeffs: [f64; TapRecord::MAX_TAPS], n: usize) -> [f64; TapRecord::MAX_TAPS]
-    requires { ⌜ n ≤ capacity ⌝ }
+    requires { ⌜ n ≤ maxTaps ⌝ }
     ensures { λ r. ⌜ r ≡ normalisedBy (totalFrom plusZero (take n coeffs)) (take n coeffs) ++ drop n coeffs ⌝ }
 {
     let sum = sum_of(coeffs, n);

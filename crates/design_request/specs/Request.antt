@@ -2,7 +2,7 @@
 use Prim.Native.Nat.{ℕ}
 use Rattle.cascade_theory.specs.Cascade.{CascadeRecord, blankCascade}
 use Rattle.fir_theory.specs.Fir.{TapsRecord, Made, blankTaps}
-use Rattle.fir_theory.specs.Lent.{capacity}
+use Rattle.limits.specs.Limits.{maxTaps}
 use Rattle.design_checks.specs.Checks.{validateParams, validateChebyshev, validateBand, validateFir}
 use Rattle.design_fir.specs.Fir.{firLp}
 use Rattle.design_cascade.specs.Design.{DesignRecord}
@@ -28,7 +28,7 @@ pub record DesignedRecord : Type 0 where
 
 -- the record not asked for is blank
 abbrev pub ofCascade : DesignRecord → DesignedRecord
-ofCascade d = record { refusal = d .refusal; cascade = d .cascade; filter = blankTaps capacity }
+ofCascade d = record { refusal = d .refusal; cascade = d .cascade; filter = blankTaps maxTaps }
 
 abbrev pub ofTaps : Made → DesignedRecord
 ofTaps m = record { refusal = m .refusal; cascade = blankCascade; filter = m .filter }

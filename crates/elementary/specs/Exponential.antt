@@ -5,7 +5,8 @@ use lib.IntN.{ℤ, pos, negsuc}
 use lib.Ieee as Ieee
 use lib.Ieee.{Float, nan, inf, fin, neg}
 use Rattle.scalar.specs.Operators.{_⊖_, _⊗_, _⊘_, bits, int}
-use Rattle.scalar.specs.Constants.{plusZero, ln2, ln2High, ln2Low}
+use Rattle.limits.specs.Zero.{plusZero}
+use Rattle.scalar.specs.Constants.{ln2, ln2High, ln2Low}
 use Rattle.elementary.specs.Whole.{nearestOf}
 use Rattle.series.specs.Series.{expSeries}
 

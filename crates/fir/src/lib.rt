@@ -4,7 +4,7 @@ ghost use mathlib.Core.Path.{_≡_};
 ghost use lib.Ieee.{binary64};
 ghost use Rattle.runs.specs.Runs.{step, reset, block};
 ghost use Rattle.fir_theory.specs.Fir.{zeros, blankTaps, fir, fromCoeffs};
-ghost use Rattle.fir_theory.specs.Lent.{capacity};
+ghost use Rattle.limits.specs.Limits.{maxTaps};
 ghost use Rattle.fir.specs.View.{tapsView, updatedView, resetView, blockView, madeView};
 use runs::Answer;
 
@@ -44,21 +44,21 @@ pub struct FirDesignResult {
 }
 
 fn no_numbers() -> [f64; TapRecord::MAX_TAPS]
-    ensures { λ r. ⌜ r ≡ zeros capacity ⌝ }
+    ensures { λ r. ⌜ r ≡ zeros maxTaps ⌝ }
 {
     [0.0; TapRecord::MAX_TAPS]
 }
 
 impl TapRecord {
     // The most taps that a record holds.
-    pub const MAX_TAPS: usize = 64;
+    pub const MAX_TAPS: usize = limits::MAX_TAPS;
 
     // The largest window code.
     pub const READY_MADE: u8 = 4;
 
     // What a refused design returns: counts 0, numbers +0.
     pub fn blank() -> Self
-        ensures { λ r. ⌜ tapsView r ≡ blankTaps capacity ⌝ }
+        ensures { λ r. ⌜ tapsView r ≡ blankTaps maxTaps ⌝ }
     {
         let taps = no_numbers();
         let samples = no_numbers();
@@ -73,7 +73,7 @@ impl TapRecord {
 
     // A record of taps given ready-made. None or more than 64 are refused by 1.
     pub fn from_coeffs(coeffs: &[f64]) -> FirDesignResult
-        ensures { λ r. ⌜ madeView r ≡ fromCoeffs capacity (now (coeffs .entry)) ⌝ }
+        ensures { λ r. ⌜ madeView r ≡ fromCoeffs maxTaps (now (coeffs .entry)) ⌝ }
     {
         let length = coeffs.len();
         if length < 1 {
@@ -111,7 +111,7 @@ impl TapRecord {
 
     // One sample: its answer, and the record after it.
     pub fn update(self, x: f64) -> UpdateResult
-        ensures { λ r. ⌜ updatedView r ≡ step (fir capacity binary64) (tapsView self) x ⌝ }
+        ensures { λ r. ⌜ updatedView r ≡ step (fir maxTaps binary64) (tapsView self) x ⌝ }
     {
         let taps = self.taps;
         let mut samples = self.samples;
@@ -139,7 +139,7 @@ impl TapRecord {
 
     // Makes all sample places +0 and the held count 0.
     pub fn reset(self) -> ResetResult
-        ensures { λ r. ⌜ resetView r ≡ reset (fir capacity binary64) (tapsView self) ⌝ }
+        ensures { λ r. ⌜ resetView r ≡ reset (fir maxTaps binary64) (tapsView self) ⌝ }
     {
         let taps = self.taps;
         let mut samples = self.samples;
@@ -160,7 +160,7 @@ impl TapRecord {
     // A block of samples, each as `update` has it: the answers in the first places of the output, later places left. An
     // output shorter than the input is refused by 5.
     pub fn block(self, input: &[f64], output: &mut [f64]) -> BlockResult
-        ensures { λ r. ⌜ blockView r (now (output .exit)) ≡ block (fir capacity binary64) (tapsView self) (now (input .entry)) (now (output .entry)) ⌝ }
+        ensures { λ r. ⌜ blockView r (now (output .exit)) ≡ block (fir maxTaps binary64) (tapsView self) (now (input .entry)) (now (output .entry)) ⌝ }
     {
         let taps = self.taps;
         let mut samples = self.samples;

@@ -11,7 +11,8 @@ ghost use Rattle.runs.specs.Runs.{block};
 ghost use Rattle.runs.specs.Lent.{lentBlock};
 ghost use Rattle.fir_theory.specs.Convolution.{spliced};
 ghost use Rattle.fir_theory.specs.Fir.{checkTaps, fir};
-ghost use Rattle.fir_theory.specs.Lent.{capacity, lentTaps, fits};
+ghost use Rattle.limits.specs.Limits.{maxTaps};
+ghost use Rattle.fir_theory.specs.Lent.{lentTaps, fits};
 ghost use Rattle.fir_theory.specs.Blocks.{backFrom, finiteRun, ageAfter, cloudsFrom, newestOf, ranBlock, FullRun};
 
 // What a block returns: 0 or the refusal number, how many answers were Clouded, and the held count after it.
@@ -103,7 +104,7 @@ fn empty_window() -> [f64; 128]
 
 // The n held samples, oldest first, and behind them m samples of the input from place `from` on.
 fn window_of(samples: &[f64], n: usize, input: &[f64], from: usize, m: usize) -> [f64; 128]
-    requires { ⌜ (1 ≤ n) × (n ≤ capacity) × (n ≤ length (now samples)) × (m ≤ n) × (from + m ≤ length (now input)) ⌝ }
+    requires { ⌜ (1 ≤ n) × (n ≤ maxTaps) × (n ≤ length (now samples)) × (m ≤ n) × (from + m ≤ length (now input)) ⌝ }
     ensures { λ r. ⌜ (length r ≡ 128) × (take (n + m) r ≡ backFrom n (now (samples .entry)) (n - 1) ++ take m (drop from (now (input .entry)))) ⌝ }
 {
     let mut window = empty_window();
@@ -133,7 +134,7 @@ fn pass_all(
     from: usize,
     output: &mut [f64],
 ) -> usize
-    requires { ⌜ (1 ≤ n) × (n ≤ capacity) × (length (now taps) ≡ capacity) × (length (now samples) ≡ capacity) × (from ≤ length (now input)) × (length (now input) ≤ length (now output)) ⌝ }
+    requires { ⌜ (1 ≤ n) × (n ≤ maxTaps) × (length (now taps) ≡ maxTaps) × (length (now samples) ≡ maxTaps) × (from ≤ length (now input)) × (length (now input) ≤ length (now output)) ⌝ }
     ensures { λ r. ⌜ FullRun (now (taps .entry)) (now (samples .entry)) n (now (input .entry)) from (now (output .entry)) r (now (samples .exit)) (now (output .exit)) ⌝ }
 {
     let m = input.len() - from;
@@ -158,10 +159,10 @@ fn pass_some(
     k: usize,
     output: &mut [f64],
 ) -> PassResult
-    requires { ⌜ (fits capacity (lentTaps (now taps) (now samples) n held window) ≡ true) × (checkTaps capacity (lentTaps (now taps) (now samples) n held window) ≡ true)
+    requires { ⌜ (fits maxTaps (lentTaps (now taps) (now samples) n held window) ≡ true) × (checkTaps maxTaps (lentTaps (now taps) (now samples) n held window) ≡ true)
         × (k ≤ length (now input)) × (length (now input) ≤ length (now output)) ⌝ }
     ensures { λ r. ⌜ ranBlock (r .clouded) (lentTaps (now (taps .entry)) (now (samples .exit)) n (r .held) window) (now (output .exit))
-        ≡ block (fir capacity binary64) (lentTaps (now (taps .entry)) (now (samples .entry)) n held window) (take k (now (input .entry))) (now (output .entry)) ⌝ }
+        ≡ block (fir maxTaps binary64) (lentTaps (now (taps .entry)) (now (samples .entry)) n held window) (take k (now (input .entry))) (now (output .entry)) ⌝ }
 {
     let mut held = held;
     let mut clouded: usize = 0;
@@ -191,7 +192,7 @@ pub fn block(
     output: &mut [f64],
 ) -> BlockResult
     ensures { λ r. ⌜ record { refusal = r .refusal; clouded = r .clouded; state = lentTaps (now (taps .entry)) (now (samples .exit)) n (r .held) window; output = now (output .exit) }
-        ≡ lentBlock (fir capacity binary64) (fits capacity) (lentTaps (now (taps .entry)) (now (samples .entry)) n held window) (now (input .entry)) (now (output .entry)) ⌝ }
+        ≡ lentBlock (fir maxTaps binary64) (fits maxTaps) (lentTaps (now (taps .entry)) (now (samples .entry)) n held window) (now (input .entry)) (now (output .entry)) ⌝ }
 {
     let refusal = fir_step::refusal_of(taps, samples, n, held, window);
     if refusal != 0 {

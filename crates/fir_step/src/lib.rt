@@ -5,15 +5,15 @@ ghost use mathlib.Core.List.{[]};
 ghost use Prim.Native.Nat.{_+_, _≤_, _<_, min};
 ghost use lib.ListN.{length, take, replicate};
 ghost use lib.Ieee.{binary64};
-ghost use Rattle.runs.specs.Runs.{plusZero, notAllFinite};
+ghost use Rattle.limits.specs.Zero.{plusZero};
+ghost use Rattle.runs.specs.Runs.{notAllFinite};
 ghost use Rattle.runs.specs.Lent.{lentRefusal, lentStep, lentReset};
 ghost use Rattle.runs.specs.View.{answerView};
 ghost use Rattle.fir_theory.specs.Fir.{pushed, sum, clouding, checkTaps, fir};
-ghost use Rattle.fir_theory.specs.Lent.{capacity, lentTaps, fits};
+ghost use Rattle.limits.specs.Limits.{maxTaps};
+ghost use Rattle.fir_theory.specs.Lent.{lentTaps, fits};
+use limits::MAX_TAPS;
 use runs::Answer;
-
-// How many taps and samples a record has places for.
-pub const MAX_TAPS: usize = 64;
 
 // The largest window code.
 pub const READY_MADE: usize = 4;
@@ -141,7 +141,7 @@ fn pass(taps: &[f64], samples: &mut [f64], n: usize, held: usize, x: f64) -> Pas
 
 // Whether the slices fit the record. Slices that do not are refused by 13.
 fn fit(taps: &[f64], samples: &[f64]) -> bool
-    ensures { λ r. ⌜ r ≡ fits capacity (lentTaps (now (taps .entry)) (now (samples .entry)) 0 0 0) ⌝ }
+    ensures { λ r. ⌜ r ≡ fits maxTaps (lentTaps (now (taps .entry)) (now (samples .entry)) 0 0 0) ⌝ }
 {
     if taps.len() != MAX_TAPS {
         return false;
@@ -150,29 +150,29 @@ fn fit(taps: &[f64], samples: &[f64]) -> bool
 }
 
 // Whether a record of these counts passes its check. One that does not is refused by 12.
-fn check(size: usize, held: usize, window: usize) -> bool
-    ensures { λ r. ⌜ r ≡ checkTaps capacity (lentTaps [] [] size held window) ⌝ }
+fn check(length: usize, held: usize, window: usize) -> bool
+    ensures { λ r. ⌜ r ≡ checkTaps maxTaps (lentTaps [] [] length held window) ⌝ }
 {
-    if size < 1 {
+    if length < 1 {
         return false;
     }
-    if size > MAX_TAPS {
+    if length > MAX_TAPS {
         return false;
     }
-    if held > size {
+    if held > length {
         return false;
     }
     window <= READY_MADE
 }
 
 // The number that refuses a record, or 0.
-pub fn refusal_of(taps: &[f64], samples: &[f64], size: usize, held: usize, window: usize) -> u8
-    ensures { λ r. ⌜ r ≡ lentRefusal (fir capacity binary64) (fits capacity) (lentTaps (now (taps .entry)) (now (samples .entry)) size held window) ⌝ }
+pub fn refusal_of(taps: &[f64], samples: &[f64], length: usize, held: usize, window: usize) -> u8
+    ensures { λ r. ⌜ r ≡ lentRefusal (fir maxTaps binary64) (fits maxTaps) (lentTaps (now (taps .entry)) (now (samples .entry)) length held window) ⌝ }
 {
     if !fit(taps, samples) {
         return runs::BAD_CALL;
     }
-    if !check(size, held, window) {
+    if !check(length, held, window) {
         return runs::BAD_TAPS;
     }
     0
@@ -182,22 +182,22 @@ pub fn refusal_of(taps: &[f64], samples: &[f64], size: usize, held: usize, windo
 pub fn update(
     taps: &[f64],
     samples: &mut [f64],
-    size: usize,
+    length: usize,
     held: usize,
     window: usize,
     x: f64,
 ) -> UpdateResult
-    ensures { λ r. ⌜ record { answer = answerView (r .answer); state = lentTaps (now (taps .entry)) (now (samples .exit)) size (r .held) window }
-        ≡ lentStep (fir capacity binary64) (fits capacity) (lentTaps (now (taps .entry)) (now (samples .entry)) size held window) x ⌝ }
+    ensures { λ r. ⌜ record { answer = answerView (r .answer); state = lentTaps (now (taps .entry)) (now (samples .exit)) length (r .held) window }
+        ≡ lentStep (fir maxTaps binary64) (fits maxTaps) (lentTaps (now (taps .entry)) (now (samples .entry)) length held window) x ⌝ }
 {
-    let refusal = refusal_of(taps, samples, size, held, window);
+    let refusal = refusal_of(taps, samples, length, held, window);
     if refusal != 0 {
         return UpdateResult {
             answer: Answer::Refused(refusal),
             held,
         };
     }
-    let p = pass(taps, samples, size, held, x);
+    let p = pass(taps, samples, length, held, x);
     if p.clouded {
         UpdateResult {
             answer: Answer::Clouded(p.out),
@@ -223,11 +223,17 @@ fn clear(samples: &mut [f64])
 }
 
 // Makes all sample places +0 and the held count 0.
-pub fn reset(taps: &[f64], samples: &mut [f64], size: usize, held: usize, window: usize) -> ResetResult
-    ensures { λ r. ⌜ record { refusal = r .refusal; state = lentTaps (now (taps .entry)) (now (samples .exit)) size (r .held) window }
-        ≡ lentReset (fir capacity binary64) (fits capacity) (lentTaps (now (taps .entry)) (now (samples .entry)) size held window) ⌝ }
+pub fn reset(
+    taps: &[f64],
+    samples: &mut [f64],
+    length: usize,
+    held: usize,
+    window: usize,
+) -> ResetResult
+    ensures { λ r. ⌜ record { refusal = r .refusal; state = lentTaps (now (taps .entry)) (now (samples .exit)) length (r .held) window }
+        ≡ lentReset (fir maxTaps binary64) (fits maxTaps) (lentTaps (now (taps .entry)) (now (samples .entry)) length held window) ⌝ }
 {
-    let refusal = refusal_of(taps, samples, size, held, window);
+    let refusal = refusal_of(taps, samples, length, held, window);
     if refusal != 0 {
         return ResetResult { refusal, held };
     }

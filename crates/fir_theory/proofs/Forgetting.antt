@@ -12,7 +12,8 @@ use lib.ListN.{length, take, length-take, length-replicate}
 use lib.Seq.{take-take, take-nil, length-take-le}
 use lib.Ieee.{Float, Format, add, mul}
 use borrow.Author.Tests.{leb-true}
-use Rattle.runs.specs.Runs.{plusZero, marked, notAllFinite}
+use Rattle.limits.specs.Zero.{plusZero}
+use Rattle.runs.specs.Runs.{marked, notAllFinite}
 use Rattle.runs.specs.Forgetting.{Call, run}
 use Rattle.runs.proofs.Forgetting as runs
 use Rattle.runs.proofs.Forgetting.{Simulates}
@@ -56,11 +57,11 @@ module _ (capacity : ℕ) (f : Format) (ts : List Float) where
   record Beside (since : Bool) (kept : List Float) (r : TapsRecord) : Type 0 where
     pub good : checkTaps capacity r ≡ true
     pub taps : tapsOf r ≡ ts
-    pub count : r .size ≡ length ts
+    pub count : r .length ≡ length ts
     pub places : length (r .samples) ≡ capacity
-    pub newest : take (min (r .size) (length kept)) (r .samples) ≡ take (r .size) kept
-    pub some : min (r .size) (length kept) ≤ r .held
-    pub exact : since ≡ true → r .held ≡ min (r .size) (length kept)
+    pub newest : take (min (r .length) (length kept)) (r .samples) ≡ take (r .length) kept
+    pub some : min (r .length) (length kept) ≤ r .held
+    pub exact : since ≡ true → r .held ≡ min (r .length) (length kept)
 
   turn : {since : Bool} {kept : List Float} {r : TapsRecord} (x : Float) → Beside since kept r → Beside since (x ∷ kept) (next r x)
   unfolding next
@@ -70,12 +71,12 @@ module _ (capacity : ℕ) (f : Format) (ts : List Float) where
         good = check-next capacity r x (b .good);
         taps = b .taps;
         count = b .count;
-        places = length-pushed (r .size) x (r .samples) (omega (arith, b .places)) ∙ b .places;
+        places = length-pushed (r .length) x (r .samples) (omega (arith, b .places)) ∙ b .places;
         newest =
-            take-pushed (min (r .size) (suc (length kept))) (r .size) x (r .samples) (omega arith) (omega (arith, b .places))
-            ∙ newest-more (r .size) (length kept) x (r .samples) kept (z .some) (b .newest);
+            take-pushed (min (r .length) (suc (length kept))) (r .length) x (r .samples) (omega arith) (omega (arith, b .places))
+            ∙ newest-more (r .length) (length kept) x (r .samples) kept (z .some) (b .newest);
         some = omega (arith, b .some);
-        exact = λ e. let h : r .held ≡ min (r .size) (length kept) = b .exact e in omega arith;
+        exact = λ e. let h : r .held ≡ min (r .length) (length kept) = b .exact e in omega arith;
       }
 
   clear : {since : Bool} {kept : List Float} {r : TapsRecord} → Beside since kept r → Beside true [] (clearedTaps capacity r)
@@ -86,13 +87,13 @@ module _ (capacity : ℕ) (f : Format) (ts : List Float) where
         taps = b .taps;
         count = b .count;
         places = length-replicate capacity plusZero;
-        newest = rw (min-zero, take-nil (r .size));
+        newest = rw (min-zero, take-nil (r .length));
         some = omega arith;
         exact = λ e. omega arith;
       }
 
   -- where an answer is due the record holds just what the plain filter uses
-  held-is : (since : Bool) (kept : List Float) (r : TapsRecord) → Beside since kept r → since || leb (length ts) (length kept) ≡ true → r .held ≡ min (r .size) (length kept)
+  held-is : (since : Bool) (kept : List Float) (r : TapsRecord) → Beside since kept r → since || leb (length ts) (length kept) ≡ true → r .held ≡ min (r .length) (length kept)
   held-is true kept r b e = b .exact refl
   held-is false kept r b e =
       let z = sizes capacity r (b .good) in
@@ -107,8 +108,8 @@ module _ (capacity : ℕ) (f : Format) (ts : List Float) where
   unfolding value
   value-same {since} {kept} {r} x b e =
       let u = used ts (x ∷ kept) in
-      let l : length u ≤ r .size = simp length-take (omega (arith, b .count)) in
-      ap (sum f plusZero (r .taps)) (held-used since (x ∷ kept) (next r x) (turn x b) e) ∙ sym (sum-taps f plusZero (r .size) (r .taps) u l)
+      let l : length u ≤ r .length = simp length-take (omega (arith, b .count)) in
+      ap (sum f plusZero (r .taps)) (held-used since (x ∷ kept) (next r x) (turn x b) e) ∙ sym (sum-taps f plusZero (r .length) (r .taps) u l)
       ∙ ap (λ (t : List Float). sum f plusZero t u) (b .taps) ∙ sum-used f plusZero ts (x ∷ kept)
 
   mark-same : {since : Bool} {kept : List Float} {r : TapsRecord} (x : Float) → Beside since kept r → since || leb (length ts) (suc (length kept)) ≡ true
@@ -127,9 +128,9 @@ module _ (capacity : ℕ) (f : Format) (r : TapsRecord) (lt : length (r .taps) �
       record {
         good = h;
         taps = refl;
-        count = sym (length-take-le (r .size) (r .taps) (omega arith));
+        count = sym (length-take-le (r .length) (r .taps) (omega arith));
         places = ls;
-        newest = rw (min-zero, take-nil (r .size));
+        newest = rw (min-zero, take-nil (r .length));
         some = rw min-zero (omega arith);
         exact = λ e. rw min-zero (none e);
       }

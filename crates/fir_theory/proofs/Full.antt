@@ -12,7 +12,8 @@ use lib.Seq.{take-take, drop-at, length-take-le}
 use lib.Ieee.{Float, nan, Format, add, mul}
 use lib.Ieee.Scale.{finite}
 use borrow.Author.Tests.{le-ltb, lt-ltb, ltb-true, ltb-false}
-use Rattle.runs.specs.Runs.{Answer, plusZero, notAllFinite, marked, cloudedIn, written, placed, isClouded, answer, answers, after}
+use Rattle.limits.specs.Zero.{plusZero}
+use Rattle.runs.specs.Runs.{Answer, notAllFinite, marked, cloudedIn, written, placed, isClouded, answer, answers, after}
 use Rattle.runs.proofs.Laws.{answers-cons, after-cons}
 use Rattle.fir_theory.specs.Convolution.{sumAt, sumsFrom}
 use Rattle.fir_theory.specs.Fir.{TapsRecord, pushed, next, heldOf, clouding, sum, value, mark, checkTaps, fir}
@@ -69,7 +70,7 @@ module _ (capacity : ℕ) (f : Format) (ts : List Float) (n : ℕ) where
   pub record Full (L : List Float) (r : TapsRecord) : Type 0 where
     pub good : checkTaps capacity r ≡ true
     pub taps : r .taps ≡ ts
-    pub size : r .size ≡ n
+    pub counted : r .length ≡ n
     pub held : r .held ≡ n
     pub places : length (r .samples) ≡ capacity
     pub newest : take n (r .samples) ≡ take n L
@@ -80,20 +81,20 @@ module _ (capacity : ℕ) (f : Format) (ts : List Float) (n : ℕ) where
   take-more (suc m) x a b e = ap (λ (l : List Float). x ∷ l) (sym (take-take m (suc m) a (omega arith)) ∙ ap (take m) e ∙ take-take m (suc m) b (omega arith))
 
   in-places : {L : List Float} {r : TapsRecord} → Full L r → n ≤ length (r .samples)
-  in-places {L} {r} p = let z = sizes capacity r (p .good) in omega (arith, p .size, p .places)
+  in-places {L} {r} p = let z = sizes capacity r (p .good) in omega (arith, p .counted, p .places)
 
   newest-next : {L : List Float} {r : TapsRecord} (x : Float) → Full L r → take n (next r x .samples) ≡ take n (x ∷ L)
   unfolding next
-  newest-next {L} {r} x p = rw (p .size) (take-pushed n n x (r .samples) (omega arith) (in-places p) ∙ take-more n x (r .samples) L (p .newest))
+  newest-next {L} {r} x p = rw (p .counted) (take-pushed n n x (r .samples) (omega arith) (in-places p) ∙ take-more n x (r .samples) L (p .newest))
 
   pub full-turn : {L : List Float} {r : TapsRecord} (x : Float) → Full L r → Full (x ∷ L) (next r x)
   unfolding next
   full-turn {L} {r} x p = record {
     good = check-next capacity r x (p .good);
     taps = p .taps;
-    size = p .size;
-    held = omega (arith, p .held, p .size);
-    places = length-pushed (r .size) x (r .samples) (omega (arith, p .size, in-places p)) ∙ p .places;
+    counted = p .counted;
+    held = omega (arith, p .held, p .counted);
+    places = length-pushed (r .length) x (r .samples) (omega (arith, p .counted, in-places p)) ∙ p .places;
     newest = newest-next x p;
   }
 
@@ -112,20 +113,20 @@ module _ (capacity : ℕ) (f : Format) (ts : List Float) (n : ℕ) where
 
   -- ---- the record after the samples: its first n places hold the newest, later places stay
   abbrev pub filled : List Float → TapsRecord → TapsRecord
-  filled L r = record { taps = r .taps; samples = take n L ++ drop n (r .samples); size = r .size; held = r .held; window = r .window }
+  filled L r = record { taps = r .taps; samples = take n L ++ drop n (r .samples); length = r .length; held = r .held; window = r .window }
 
   filled-next : (Z : List Float) {L : List Float} {r : TapsRecord} (x : Float) → Full L r → filled Z (next r x) ≡ filled Z r
   unfolding next pushed
   filled-next Z {L} {r} x p =
       let d : drop n (take n (x ∷ r .samples) ++ drop n (r .samples)) ≡ drop n (r .samples) = drop-at (take n (x ∷ r .samples)) (drop n (r .samples)) n (length-take-le n (x ∷ r .samples) (omega (arith, in-places p))) in
-      let h : min (r .held + 1) (r .size) ≡ r .held = omega (arith, p .held, p .size) in
-      rw (h, p .size, d)
+      let h : min (r .held + 1) (r .length) ≡ r .held = omega (arith, p .held, p .counted) in
+      rw (h, p .counted, d)
 
   pub after-full : {L : List Float} {r : TapsRecord} (xs : List Float) → Full L r → after (fir capacity f) r xs ≡ filled (reverseAux xs L) r
   unfolding after
   after-full {L} {r} [] p =
       let e : r .samples ≡ take n L ++ drop n (r .samples) = sym (take-append-drop n (r .samples)) ∙ ap (λ (l : List Float). l ++ drop n (r .samples)) (p .newest) in
-      λ i. record { taps = r .taps; samples = e i; size = r .size; held = r .held; window = r .window }
+      λ i. record { taps = r .taps; samples = e i; length = r .length; held = r .held; window = r .window }
   after-full {L} {r} (x ∷ xs) p = after-cons (fir capacity f) r x xs (p .good) ∙ after-full xs (full-turn x p) ∙ filled-next (reverseAux xs (x ∷ L)) x p
 
 -- ---- the places of a block's output
@@ -206,10 +207,10 @@ past-after X k L n (x ∷ xs) p q =
 
 -- ---- a record fills up
 pub held-after : (capacity : ℕ) (f : Format) (r : TapsRecord) (xs : List Float) → checkTaps capacity r ≡ true
-    → (after (fir capacity f) r xs .held ≡ min (r .held + length xs) (r .size)) × (after (fir capacity f) r xs .size ≡ r .size)
+    → (after (fir capacity f) r xs .held ≡ min (r .held + length xs) (r .length)) × (after (fir capacity f) r xs .length ≡ r .length)
 unfolding after next
 held-after capacity f r [] h = (omega (arith, sizes capacity r h), refl)
 held-after capacity f r (x ∷ xs) h =
     let e = after-cons (fir capacity f) r x xs h in
     let p = held-after capacity f (next r x) xs (check-next capacity r x h) in
-    (ap (λ (k : TapsRecord). k .held) e ∙ p .0 ∙ omega arith, ap (λ (k : TapsRecord). k .size) e ∙ p .1)
+    (ap (λ (k : TapsRecord). k .held) e ∙ p .0 ∙ omega arith, ap (λ (k : TapsRecord). k .length) e ∙ p .1)

@@ -13,7 +13,8 @@ use lib.Ieee.{Float, nan, inf, fin, unlike, Format, add, mul}
 use lib.Ieee.Scale.{finite}
 use borrow.Author.Tests.{leb-true, le-leb, lt-ltb, le-ltb, eq-eqb, ne-eqb, eqb-true}
 use Rattle.runs.specs.Refusals.{InvalidOrder, Accepted, orderRefused}
-use Rattle.runs.specs.Runs.{plusZero, notAllFinite, marked, answer, Step, Reset}
+use Rattle.limits.specs.Zero.{plusZero}
+use Rattle.runs.specs.Runs.{notAllFinite, marked, answer, Step, Reset}
 use Rattle.runs.specs.Lent.{lentStep, lentReset}
 use Rattle.runs.proofs.Laws.{step-answered, reset-done}
 use Rattle.runs.proofs.Lent.{lent-step, lent-reset}
@@ -148,31 +149,31 @@ both : (a b : Bool) → (a && b) ≡ true → (a ≡ true) × (b ≡ true)
 both true b h = (refl, h)
 both false b h = absurd (true≢false (sym h))
 
-pub record Sizes (capacity size held : ℕ) : Type 0 where
-  pub some : 1 ≤ size
-  pub within : size ≤ capacity
-  pub few : held ≤ size
+pub record Sizes (capacity n held : ℕ) : Type 0 where
+  pub some : 1 ≤ n
+  pub within : n ≤ capacity
+  pub few : held ≤ n
 
-pub sizes : (capacity : ℕ) (r : TapsRecord) → checkTaps capacity r ≡ true → Sizes capacity (r .size) (r .held)
+pub sizes : (capacity : ℕ) (r : TapsRecord) → checkTaps capacity r ≡ true → Sizes capacity (r .length) (r .held)
 unfolding checkTaps
 sizes capacity r h =
-    let p = both (leb 1 (r .size) && leb (r .size) capacity) (leb (r .held) (r .size) && leb (r .window) ReadyMade) h in
-    let q = both (leb 1 (r .size)) (leb (r .size) capacity) (p .0) in
+    let p = both (leb 1 (r .length) && leb (r .length) capacity) (leb (r .held) (r .length) && leb (r .window) ReadyMade) h in
+    let q = both (leb 1 (r .length)) (leb (r .length) capacity) (p .0) in
     record {
-      some = leb-true 1 (r .size) (q .0);
-      within = leb-true (r .size) capacity (q .1);
-      few = leb-true (r .held) (r .size) (both (leb (r .held) (r .size)) (leb (r .window) ReadyMade) (p .1) .0);
+      some = leb-true 1 (r .length) (q .0);
+      within = leb-true (r .length) capacity (q .1);
+      few = leb-true (r .held) (r .length) (both (leb (r .held) (r .length)) (leb (r .window) ReadyMade) (p .1) .0);
     }
 
 -- and what has it passes, if the code is a window's
-checked : (capacity : ℕ) (r : TapsRecord) → Sizes capacity (r .size) (r .held) → leb (r .window) ReadyMade ≡ true → checkTaps capacity r ≡ true
+checked : (capacity : ℕ) (r : TapsRecord) → Sizes capacity (r .length) (r .held) → leb (r .window) ReadyMade ≡ true → checkTaps capacity r ≡ true
 unfolding checkTaps
-checked capacity r z w = rw (le-leb 1 (r .size) (z .some), le-leb (r .size) capacity (z .within), le-leb (r .held) (r .size) (z .few), w)
+checked capacity r z w = rw (le-leb 1 (r .length) (z .some), le-leb (r .length) capacity (z .within), le-leb (r .held) (r .length) (z .few), w)
 
 window-in : (capacity : ℕ) (r : TapsRecord) → checkTaps capacity r ≡ true → leb (r .window) ReadyMade ≡ true
 unfolding checkTaps
 window-in capacity r h =
-    both (leb (r .held) (r .size)) (leb (r .window) ReadyMade) (both (leb 1 (r .size) && leb (r .size) capacity) (leb (r .held) (r .size) && leb (r .window) ReadyMade) h .1) .1
+    both (leb (r .held) (r .length)) (leb (r .window) ReadyMade) (both (leb 1 (r .length) && leb (r .length) capacity) (leb (r .held) (r .length) && leb (r .window) ReadyMade) h .1) .1
 
 -- a sample leaves the record good
 pub check-next : (capacity : ℕ) (r : TapsRecord) (x : Float) → checkTaps capacity r ≡ true → checkTaps capacity (next r x) ≡ true
@@ -190,8 +191,8 @@ check-cleared capacity r h =
 
 -- ---- one sample taken
 pub passed : (f : Format) (r : TapsRecord) (x : Float) {out : Float} {m : Bool} {s : List Float} {h : ℕ}
-    → s ≡ pushed (r .size) x (r .samples) → h ≡ min (r .held + 1) (r .size) → out ≡ sum f plusZero (r .taps) (take h s) → m ≡ clouding (r .taps) (take h s)
-    → (out ≡ value f r x) × (m ≡ mark r x) × (_≡_ {A = TapsRecord} (record { taps = r .taps; samples = s; size = r .size; held = h; window = r .window }) (next r x))
+    → s ≡ pushed (r .length) x (r .samples) → h ≡ min (r .held + 1) (r .length) → out ≡ sum f plusZero (r .taps) (take h s) → m ≡ clouding (r .taps) (take h s)
+    → (out ≡ value f r x) × (m ≡ mark r x) × (_≡_ {A = TapsRecord} (record { taps = r .taps; samples = s; length = r .length; held = h; window = r .window }) (next r x))
 unfolding next heldOf value mark
 passed f r x es eh eo em = (rw (eo, es, eh), rw (em, es, eh), rw (es, eh))
 
@@ -211,7 +212,7 @@ pub lengths-fit : (capacity : ℕ) (r : TapsRecord) → length (r .taps) ≡ cap
 unfolding fits
 lengths-fit capacity r h k = rw (eq-eqb (length (r .taps)) capacity h, eq-eqb (length (r .samples)) capacity k)
 
-pub rooms : (capacity : ℕ) (r : TapsRecord) → fits capacity r ≡ true → checkTaps capacity r ≡ true → (r .size ≤ length (r .taps)) × (r .size ≤ length (r .samples)) × (r .held ≤ r .size)
+pub rooms : (capacity : ℕ) (r : TapsRecord) → fits capacity r ≡ true → checkTaps capacity r ≡ true → (r .length ≤ length (r .taps)) × (r .length ≤ length (r .samples)) × (r .held ≤ r .length)
 rooms capacity r h k = let l = fits-lengths capacity r h in
     let z = sizes capacity r k in
     (omega (arith, l .0, z), omega (arith, l .1, z), z .few)
@@ -222,17 +223,17 @@ unfolding fits next
 fits-next capacity r x h k =
     let l = fits-lengths capacity r h in
     let z = rooms capacity r h k in
-    rw (length-pushed (r .size) x (r .samples) (z .1), eq-eqb (length (r .taps)) capacity (l .0), eq-eqb (length (r .samples)) capacity (l .1))
+    rw (length-pushed (r .length) x (r .samples) (z .1), eq-eqb (length (r .taps)) capacity (l .0), eq-eqb (length (r .samples)) capacity (l .1))
 
 module _ (f : Format) (capacity : ℕ) (r : TapsRecord) (fit : fits capacity r ≡ true) (good : checkTaps capacity r ≡ true) where
   pub update-is : (x : Float) {s : List Float} {h : ℕ} {y : Float} {m : Bool} (b : Bool)
-      → (s ≡ pushed (r .size) x (r .samples)) × (h ≡ min (r .held + 1) (r .size)) × (y ≡ sum f plusZero (r .taps) (take h s)) × (m ≡ clouding (r .taps) (take h s)) → m ≡ b
-      → _≡_ {A = Step TapsRecord} (record { answer = marked b y; state = lentTaps (r .taps) s (r .size) h (r .window) }) (lentStep (fir capacity f) (fits capacity) r x)
+      → (s ≡ pushed (r .length) x (r .samples)) × (h ≡ min (r .held + 1) (r .length)) × (y ≡ sum f plusZero (r .taps) (take h s)) × (m ≡ clouding (r .taps) (take h s)) → m ≡ b
+      → _≡_ {A = Step TapsRecord} (record { answer = marked b y; state = lentTaps (r .taps) s (r .length) h (r .window) }) (lentStep (fir capacity f) (fits capacity) r x)
   update-is x b e k = let p = passed f r x (e .0) (e .1) (e .2) (e .3) in
       step-answered (fir capacity f) r x good (answer-is f capacity r x b (p .0) (p .1) k) (p .2) ∙ sym (lent-step (fir capacity f) (fits capacity) r x fit)
 
   pub reset-is : {s : List Float} → s ≡ replicate (length (r .samples)) plusZero
-      → _≡_ {A = Reset TapsRecord} (record { refusal = Accepted; state = lentTaps (r .taps) s (r .size) 0 (r .window) }) (lentReset (fir capacity f) (fits capacity) r)
+      → _≡_ {A = Reset TapsRecord} (record { refusal = Accepted; state = lentTaps (r .taps) s (r .length) 0 (r .window) }) (lentReset (fir capacity f) (fits capacity) r)
   unfolding clearedTaps
   reset-is e = reset-done (fir capacity f) r good (rw (e, fits-lengths capacity r fit .1)) ∙ sym (lent-reset (fir capacity f) (fits capacity) r fit)
 
@@ -263,6 +264,6 @@ module _ (capacity : ℕ) (ts : List Float) where
   made-many h k e = rw (ne-eqb (length ts) 0 (λ z. omega arith), lt-ltb capacity (length ts) k, e)
 
   pub made : {l s : List Float} (i : ℕ) → 1 ≤ length ts → length ts ≤ capacity → i ≡ length ts → s ≡ zeros capacity → Copying ts (zeros capacity) l i
-      → _≡_ {A = Made} (record { refusal = Accepted; filter = record { taps = l; samples = s; size = length ts; held = 0; window = ReadyMade } }) (fromCoeffs capacity ts)
+      → _≡_ {A = Made} (record { refusal = Accepted; filter = record { taps = l; samples = s; length = length ts; held = 0; window = ReadyMade } }) (fromCoeffs capacity ts)
   unfolding fromCoeffs orderRefused holding
   made i h k ei es p = rw (ne-eqb (length ts) 0 (λ z. omega arith), le-ltb capacity (length ts) k, p .0, es, ei, take-length, drop-replicate)

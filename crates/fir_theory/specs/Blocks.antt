@@ -10,7 +10,8 @@ use lib.Ieee.Scale.{finite}
 use Rattle.runs.specs.Refusals.{Accepted}
 use Rattle.runs.specs.Runs.{Block, cloudedIn, written, answers, after}
 use Rattle.fir_theory.specs.Fir.{TapsRecord, checkTaps, fir}
-use Rattle.fir_theory.specs.Lent.{capacity, lentTaps}
+use Rattle.limits.specs.Limits.{maxTaps}
+use Rattle.fir_theory.specs.Lent.{lentTaps}
 
 -- n samples from place k backward
 unfoldable pub backFrom : ℕ → List Float → ℕ → List Float
@@ -43,7 +44,7 @@ ranBlock clouded r output = record { refusal = Accepted; clouded = clouded; stat
 -- the samples after them, and the output
 abbrev pub FullRun : List Float → List Float → ℕ → List Float → ℕ → List Float → ℕ → List Float → List Float → Type 0
 FullRun taps samples n input from output clouded samples′ output′ =
-    (window : ℕ) → checkTaps capacity (lentTaps taps samples n n window) ≡ true
-    → (clouded ≡ cloudedIn (answers (fir capacity binary64) (lentTaps taps samples n n window) (drop from input)))
-    × (lentTaps taps samples′ n n window ≡ after (fir capacity binary64) (lentTaps taps samples n n window) (drop from input))
-    × (output′ ≡ take from output ++ written (answers (fir capacity binary64) (lentTaps taps samples n n window) (drop from input)) (drop from output))
+    (window : ℕ) → checkTaps maxTaps (lentTaps taps samples n n window) ≡ true
+    → (clouded ≡ cloudedIn (answers (fir maxTaps binary64) (lentTaps taps samples n n window) (drop from input)))
+    × (lentTaps taps samples′ n n window ≡ after (fir maxTaps binary64) (lentTaps taps samples n n window) (drop from input))
+    × (output′ ≡ take from output ++ written (answers (fir maxTaps binary64) (lentTaps taps samples n n window) (drop from input)) (drop from output))

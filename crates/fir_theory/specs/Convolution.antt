@@ -5,7 +5,7 @@ use mathlib.Core.Bool.{Bool, _&&_, cond}
 use lib.Dec.{leb}
 use lib.ListN.{length, getD, take, drop}
 use lib.Ieee.{Float, nan, Format, add, mul}
-use Rattle.runs.specs.Runs.{plusZero}
+use Rattle.limits.specs.Zero.{plusZero}
 
 module _ (f : Format) (taps : List Float) where
   -- +0, then tap i × the sample i places before place k is added, from i = 0 on, for n taps

@@ -7,13 +7,14 @@ use lib.Dec.{leb}
 use lib.ListN.{length, take, drop, replicate}
 use lib.Ieee.{Float, Format, add, mul}
 use Rattle.runs.specs.Refusals.{Accepted, InvalidOrder, BadTaps, orderRefused}
-use Rattle.runs.specs.Runs.{plusZero, notAllFinite, Filter}
+use Rattle.limits.specs.Zero.{plusZero}
+use Rattle.runs.specs.Runs.{notAllFinite, Filter}
 
 -- taps, samples, a length, a held count and a window code
 pub record TapsRecord : Type 0 where
   pub taps : List Float
   pub samples : List Float
-  pub size : ℕ
+  pub length : ℕ
   pub held : ℕ
   pub window : ℕ
 
@@ -42,9 +43,9 @@ pushed n x xs = take n (x ∷ xs) ++ drop n xs
 unfoldable pub next : TapsRecord → Float → TapsRecord
 next r x = record {
   taps = r .taps;
-  samples = pushed (r .size) x (r .samples);
-  size = r .size;
-  held = min (r .held + 1) (r .size);
+  samples = pushed (r .length) x (r .samples);
+  length = r .length;
+  held = min (r .held + 1) (r .length);
   window = r .window;
 }
 
@@ -78,18 +79,18 @@ pub record Made : Type 0 where
 module _ (capacity : ℕ) where
   -- 12 is given where the length is 0 or above the capacity, the held count above the length, or the window code above 4
   unfoldable pub checkTaps : TapsRecord → Bool
-  checkTaps r = (leb 1 (r .size) && leb (r .size) capacity) && (leb (r .held) (r .size) && leb (r .window) ReadyMade)
+  checkTaps r = (leb 1 (r .length) && leb (r .length) capacity) && (leb (r .held) (r .length) && leb (r .window) ReadyMade)
 
   abbrev pub zeros : List Float
   zeros = replicate capacity plusZero
 
   -- counts 0, numbers +0
   abbrev pub blankTaps : TapsRecord
-  blankTaps = record { taps = zeros; samples = zeros; size = 0; held = 0; window = 0 }
+  blankTaps = record { taps = zeros; samples = zeros; length = 0; held = 0; window = 0 }
 
   -- reset makes all sample places +0 and the count 0
   unfoldable pub clearedTaps : TapsRecord → TapsRecord
-  clearedTaps r = record { taps = r .taps; samples = zeros; size = r .size; held = 0; window = r .window }
+  clearedTaps r = record { taps = r .taps; samples = zeros; length = r .length; held = 0; window = r .window }
 
   -- the tap record as a filter
   abbrev pub fir : Format → Filter
@@ -97,7 +98,7 @@ module _ (capacity : ℕ) where
 
   -- these taps in front, +0 behind, no sample held
   unfoldable pub holding : List Float → ℕ → TapsRecord
-  holding ts window = record { taps = ts ++ replicate (capacity - length ts) plusZero; samples = zeros; size = length ts; held = 0; window = window }
+  holding ts window = record { taps = ts ++ replicate (capacity - length ts) plusZero; samples = zeros; length = length ts; held = 0; window = window }
 
   -- ready-made taps
   unfoldable pub fromCoeffs : List Float → Made

@@ -7,12 +7,8 @@ use lib.ListN.{length}
 use lib.Ieee.{Float}
 use Rattle.fir_theory.specs.Fir.{TapsRecord}
 
--- the code's capacity
-abbrev pub capacity : ℕ
-capacity = 64
-
 abbrev pub lentTaps : List Float → List Float → ℕ → ℕ → ℕ → TapsRecord
-lentTaps taps samples size held window = record { taps = taps; samples = samples; size = size; held = held; window = window }
+lentTaps taps samples n held window = record { taps = taps; samples = samples; length = n; held = held; window = window }
 
 -- whether the slices fit the record: each has as many places as the capacity
 unfoldable pub fits : ℕ → TapsRecord → Bool

@@ -4,13 +4,14 @@ use Prim.Native.Nat.{ℕ}
 use lib.Dec.{leb}
 use lib.ListN.{length, take}
 use lib.Ieee.{Float, Format}
-use Rattle.runs.specs.Runs.{plusZero, notAllFinite}
+use Rattle.limits.specs.Zero.{plusZero}
+use Rattle.runs.specs.Runs.{notAllFinite}
 use Rattle.runs.specs.Forgetting.{Plain, Call, Outcome, Forgets}
 use Rattle.fir_theory.specs.Fir.{TapsRecord, sum, fir}
 
 -- it is fed the starting record's taps
 abbrev pub tapsOf : TapsRecord → List Float
-tapsOf r = take (r .size) (r .taps)
+tapsOf r = take (r .length) (r .taps)
 
 -- the samples that it uses: the newest, at most as many as the taps
 abbrev pub used : List Float → List Float → List Float

@@ -8,7 +8,8 @@ use lib.Ieee.{Float, nan, inf, fin, size, minus, up, down}
 use lib.Ieee.Exact.{HasValue}
 use lib.Ieee.Positive.{num, den, positive}
 use Rattle.scalar.specs.Operators.{_⊕_, _⊖_, _⊗_, _⊘_, bits, int}
-use Rattle.scalar.specs.Constants.{plusZero, one, two, half, ln2High, ln2Low}
+use Rattle.limits.specs.Zero.{plusZero}
+use Rattle.scalar.specs.Constants.{one, two, half, ln2High, ln2Low}
 use Rattle.series.specs.Series.{lnSeries}
 use Rattle.logarithm.specs.declared.Parts.{Parts}
 

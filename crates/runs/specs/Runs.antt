@@ -4,15 +4,11 @@ use mathlib.Core.Path.{_≡_}
 use mathlib.Core.Bool.{Bool, true, false, not, _||_, cond}
 use mathlib.Core.List.{List, [], _∷_}
 use lib.Dec.{ltb}
-use lib.IntN.{pos}
 use lib.ListN.{length}
-use lib.Ieee.{Float, fin}
+use lib.Ieee.{Float}
 use lib.Ieee.Scale.{finite}
+use Rattle.limits.specs.Zero.{plusZero}
 use Rattle.runs.specs.Refusals.{Accepted, ShortOutput}
-
--- +0, at every format
-abbrev pub plusZero : Float
-plusZero = fin false 0 (pos 0)
 
 -- a sample answer: Clear with a number, Clouded with a number, or Refused with its refusal number
 pub data Answer : Type 0 where

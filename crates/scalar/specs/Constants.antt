@@ -2,9 +2,6 @@
 use lib.Ieee.{Float}
 use Rattle.scalar.specs.Operators.{bits}
 
-abbrev pub plusZero : Float
-plusZero = bits 0
-
 abbrev pub one : Float
 one = bits 0x3FF0000000000000
 

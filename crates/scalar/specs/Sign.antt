@@ -2,7 +2,7 @@
 use mathlib.Core.Bool.{false, cond}
 use lib.Ieee as Ieee
 use lib.Ieee.{Float, nan, inf, fin}
-use Rattle.scalar.specs.Constants.{plusZero}
+use Rattle.limits.specs.Zero.{plusZero}
 
 unfoldable pub absOf : Float → Float
 absOf nan = nan

@@ -9,7 +9,7 @@ use Rattle.runs.specs.Refusals.{Accepted, ShortOutput}
 use Rattle.runs.specs.Runs.{Filter, answers, written}
 use Rattle.cascade_theory.specs.Cascade.{cascade}
 use Rattle.fir_theory.specs.Fir.{fir, fromCoeffs}
-use Rattle.fir_theory.specs.Lent.{capacity}
+use Rattle.limits.specs.Limits.{maxTaps}
 use Rattle.design_cascade.specs.LowPass.{butterworthLp}
 
 pub record Stepped : Type 0 where
@@ -29,4 +29,4 @@ cascadeSteps order cutoff rate input output = let d = butterworthLp order cutoff
 
 -- through ready-made taps
 unfoldable pub firSteps : List Float → List Float → List Float → Stepped
-firSteps coeffs input output = let m = fromCoeffs capacity coeffs in stepsOf (fir capacity binary64) (m .refusal) (m .filter) input output
+firSteps coeffs input output = let m = fromCoeffs maxTaps coeffs in stepsOf (fir maxTaps binary64) (m .refusal) (m .filter) input output

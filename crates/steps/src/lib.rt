@@ -9,7 +9,7 @@ ghost use Rattle.runs.specs.View.{answerView};
 ghost use Rattle.cascade_theory.specs.Cascade.{cascade};
 ghost use Rattle.cascade.specs.View.{cascadeView};
 ghost use Rattle.fir_theory.specs.Fir.{fir};
-ghost use Rattle.fir_theory.specs.Lent.{capacity};
+ghost use Rattle.limits.specs.Limits.{maxTaps};
 ghost use Rattle.fir.specs.View.{tapsView};
 ghost use Rattle.steps.specs.Steps.{cascadeSteps, firSteps};
 use cascade::Cascade;
@@ -45,7 +45,7 @@ fn run_cascade(start: Cascade, input: &[f64], output: &mut [f64])
 
 fn run_fir(start: TapRecord, input: &[f64], output: &mut [f64])
     requires { ⌜ length (now input) ≤ length (now output) ⌝ }
-    ensures { λ _. ⌜ now (output .exit) ≡ written (answers (fir capacity binary64) (tapsView start) (now (input .entry))) (now (output .entry)) ⌝ }
+    ensures { λ _. ⌜ now (output .exit) ≡ written (answers (fir maxTaps binary64) (tapsView start) (now (input .entry))) (now (output .entry)) ⌝ }
 {
     let mut f = start;
     let mut i: usize = 0;

@@ -6,7 +6,7 @@ use lib.Dec.{eqb}
 use borrow.Author.Tests.{not-true, not-false, eq-eqb}
 use Rattle.c_layout.proofs.Laws.{cond-true}
 use lib.ListN.{length}
-use Rattle.fir_theory.specs.Lent.{capacity}
+use Rattle.limits.specs.Limits.{maxTaps}
 use Rattle.fir.specs.View.{madeView}
 use Rattle.c_calls.specs.Kinds.{tapsCounts}
 use Rattle.c_calls.specs.Calls.{tapsPlaces}
@@ -19,10 +19,10 @@ use Rattle.c_designs.proofs.hand_out_taps.Tie as tie
 places : (e : tie.Else1) → tapsPlaces (e .before .before .before .before .before .before .before .before .args .taps .now) (e .before .before .before .before .before .before .before .before .args .samples .now) (e .before .before .before .before .before .before .before .before .args .counts .now) ≡ true
 places e = sym (e .before .has-tap-places .ensures) ∙ not-false _ (e .if1 .left)
 
-taps-are : (s : tie.Start) → length (s .args .m .filter .taps) ≡ capacity
+taps-are : (s : tie.Start) → length (s .args .m .filter .taps) ≡ maxTaps
 taps-are s = search needs
 
-samples-are : (s : tie.Start) → length (s .args .m .filter .samples) ≡ capacity
+samples-are : (s : tie.Start) → length (s .args .m .filter .samples) ≡ maxTaps
 samples-are s = search needs
 
 returns : tie.Need-returns

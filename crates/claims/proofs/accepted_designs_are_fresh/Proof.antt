@@ -1,5 +1,5 @@
 -- `claims::accepted_designs_are_fresh` meets its contract.
-use Rattle.fir_theory.specs.Lent.{capacity}
+use Rattle.limits.specs.Limits.{maxTaps}
 use lib.Ieee.{binary64}
 use Rattle.cascade_theory.proofs.Forgetting as cascade
 use Rattle.fir_theory.proofs.Fresh as fir
@@ -16,9 +16,9 @@ returns c = record {
   chebyshevII = chebyshev2-fresh;
   bandPass = bandpass-fresh;
   firLowPass = fir-fresh;
-  readyMade = fir.ready-made-fresh capacity binary64;
+  readyMade = fir.ready-made-fresh maxTaps binary64;
   cascadeReset = cascade.reset-makes-fresh binary64;
-  firReset = fir.reset-makes-fresh capacity binary64;
+  firReset = fir.reset-makes-fresh maxTaps binary64;
 }
 
 pub accepted-designs-are-fresh-spec : {M : Type 1} → statement M

@@ -7,7 +7,7 @@ use lib.Ieee.{Float, binary64}
 use Rattle.runs.specs.Forgetting.{Call, Outcome, plainRun, seen}
 use Rattle.runs.proofs.Forgetting.{forgets-shown}
 use Rattle.fir_theory.specs.Fir.{TapsRecord, fir}
-use Rattle.fir_theory.specs.Lent.{capacity}
+use Rattle.limits.specs.Limits.{maxTaps}
 use Rattle.fir_theory.proofs.Laws.{fits-lengths}
 use Rattle.fir_theory.specs.Plain.{plainFir, tapsOf, FirForgets}
 use Rattle.fir_theory.proofs.Forgetting.{forgets}
@@ -19,19 +19,19 @@ use Rattle.claims.proofs.c_fir_calls_forget.Statement.{statement}
 use Rattle.claims.proofs.c_fir_calls_forget.Tie as tie
 
 -- of no call
-none : (r : TapsRecord) → FirForgets capacity binary64 r [] []
+none : (r : TapsRecord) → FirForgets maxTaps binary64 r [] []
 unfolding plainRun seen
 none r = record { fromFresh = λ e. refl; fromAny = λ h. refl; fromRefused = λ h. refl }
 
 forgotten : (taps samples : List Float) (counts : List ℕ) (calls : List Call) (outcomes : List Outcome) → CCalls (firKind taps) samples counts calls outcomes
-    → FirForgets capacity binary64 (tapsAt taps samples counts) calls outcomes
+    → FirForgets maxTaps binary64 (tapsAt taps samples counts) calls outcomes
 forgotten taps samples counts calls outcomes l = go (tapsFit taps samples counts) refl
   where
-    go : (b : Bool) → tapsFit taps samples counts ≡ b → FirForgets capacity binary64 (tapsAt taps samples counts) calls outcomes
+    go : (b : Bool) → tapsFit taps samples counts ≡ b → FirForgets maxTaps binary64 (tapsAt taps samples counts) calls outcomes
     go true h =
         let r = tapsAt taps samples counts in
-        let lengths = fits-lengths capacity r (taps-fit taps samples counts h) in
-        forgets-shown (fir capacity binary64) (plainFir binary64) tapsOf r calls (c-calls-run (firKind taps) (fir-read-back taps) l) (forgets capacity binary64 r (lengths .0) (lengths .1) calls)
+        let lengths = fits-lengths maxTaps r (taps-fit taps samples counts h) in
+        forgets-shown (fir maxTaps binary64) (plainFir binary64) tapsOf r calls (c-calls-run (firKind taps) (fir-read-back taps) l) (forgets maxTaps binary64 r (lengths .0) (lengths .1) calls)
     go false h = let p = c-calls-none (firKind taps) (fir-read-back taps) h l in rw (p .0, p .1) (none (tapsAt taps samples counts))
 
 returns : tie.Need-returns

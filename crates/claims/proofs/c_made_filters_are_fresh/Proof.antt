@@ -9,12 +9,13 @@ use lib.ListN.{length, length-append, length-replicate}
 use lib.Ieee.{Float, binary64}
 use borrow.Author.Tests.{eqb-true, eqb-false}
 use Rattle.runs.specs.Refusals.{Accepted, InvalidOrder, BadCall, orderRefused}
-use Rattle.runs.specs.Runs.{plusZero}
+use Rattle.limits.specs.Zero.{plusZero}
 use Rattle.cascade_theory.specs.Section.{SectionRecord}
 use Rattle.cascade_theory.specs.Cascade.{CascadeRecord}
 use Rattle.cascade.specs.View.{FreshCascade}
 use Rattle.fir_theory.specs.Fir.{TapsRecord, Made, ReadyMade, Blackman, blankTaps, holding, fromCoeffs}
-use Rattle.fir_theory.specs.Lent.{capacity, fits}
+use Rattle.limits.specs.Limits.{maxTaps}
+use Rattle.fir_theory.specs.Lent.{fits}
 use Rattle.fir_theory.proofs.Laws.{sizes, lengths-fit}
 use Rattle.fir_theory.proofs.Fresh.{ready-made-fresh}
 use Rattle.fir.specs.View.{FreshTaps}
@@ -90,16 +91,16 @@ band-made v n wl wh d e fresh = cascade-made d (ap (λ (r : DesignRecord). lengt
 
 -- ---- tap records
 
-holding-fits : (ts : List Float) (w : ℕ) → length ts ≤ capacity → fits capacity (holding capacity ts w) ≡ true
+holding-fits : (ts : List Float) (w : ℕ) → length ts ≤ maxTaps → fits maxTaps (holding maxTaps ts w) ≡ true
 unfolding holding
-holding-fits ts w h = lengths-fit capacity _ (simp (length-append, length-replicate) (omega arith)) (length-replicate capacity plusZero)
+holding-fits ts w h = lengths-fit maxTaps _ (simp (length-append, length-replicate) (omega arith)) (length-replicate maxTaps plusZero)
 
-held-few : (ts : List Float) (w : ℕ) → FreshTaps (holding capacity ts w) → length ts ≤ capacity
+held-few : (ts : List Float) (w : ℕ) → FreshTaps (holding maxTaps ts w) → length ts ≤ maxTaps
 unfolding holding
-held-few ts w f = sizes capacity (holding capacity ts w) (f .checked) .within
+held-few ts w f = sizes maxTaps (holding maxTaps ts w) (f .checked) .within
 
 -- a record that was made of some taps
-taps-made : (m : Made) (ts : List Float) (w : ℕ) → (m .refusal ≡ 0 → m .filter ≡ holding capacity ts w) → (m .refusal ≡ 0 → FreshTaps (m .filter))
+taps-made : (m : Made) (ts : List Float) (w : ℕ) → (m .refusal ≡ 0 → m .filter ≡ holding maxTaps ts w) → (m .refusal ≡ 0 → FreshTaps (m .filter))
     → TapsMade (λ taps samples counts. madeCall taps samples counts m)
 unfolding madeCall
 taps-made m ts w is fresh taps taps′ samples samples′ counts counts′ e = go (tapsPlaces taps samples counts) (eqb (m .refusal) 0) refl refl
@@ -118,30 +119,30 @@ taps-made m ts w is fresh taps taps′ samples samples′ counts counts′ e = g
     go true true p q =
         let z = e ∙ ap₂ done p q in
         let ok = eqb-true (m .refusal) 0 q in
-        let few : length ts ≤ capacity = held-few ts w (rw (is ok) at (fresh ok)) in
-        let fit : fits capacity (m .filter) ≡ true = rw (is ok) (holding-fits ts w few) in
+        let few : length ts ≤ maxTaps = held-few ts w (rw (is ok) at (fresh ok)) in
+        let fit : fits maxTaps (m .filter) ≡ true = rw (is ok) (holding-fits ts w few) in
         let back = taps-back (m .filter .taps) (m .filter) refl fit in
         let et : taps′ ≡ m .filter .taps = ap (λ (s : TapsStored). s .taps) z in
         let es : samples′ ≡ m .filter .samples = ap (λ (s : TapsStored). s .samples) z in
         let ec : counts′ ≡ tapsCounts (m .filter) = ap (λ (s : TapsStored). s .counts) z in
         rw (et, es, ec) (back .1, rw (back .0) (fresh ok))
 
-ready-is : (ts : List Float) → fromCoeffs capacity ts .refusal ≡ 0 → fromCoeffs capacity ts .filter ≡ holding capacity ts ReadyMade
+ready-is : (ts : List Float) → fromCoeffs maxTaps ts .refusal ≡ 0 → fromCoeffs maxTaps ts .filter ≡ holding maxTaps ts ReadyMade
 unfolding fromCoeffs
-ready-is ts = go (orderRefused (length ts) capacity)
+ready-is ts = go (orderRefused (length ts) maxTaps)
   where
-    go : (b : Bool) → (let m : Made = cond b (record { refusal = InvalidOrder; filter = blankTaps capacity }) (record { refusal = Accepted; filter = holding capacity ts ReadyMade }) in m .refusal ≡ 0 → m .filter ≡ holding capacity ts ReadyMade)
+    go : (b : Bool) → (let m : Made = cond b (record { refusal = InvalidOrder; filter = blankTaps maxTaps }) (record { refusal = Accepted; filter = holding maxTaps ts ReadyMade }) in m .refusal ≡ 0 → m .filter ≡ holding maxTaps ts ReadyMade)
     go true e = absurd (one e)
       where
         one : _≡_ {A = ℕ} 1 0 → ⊥
         one e = omega arith
     go false e = refl
 
-designed-is : (n : ℕ) (cutoff : Float) (w : WindowType) → firLp n cutoff w .refusal ≡ 0 → firLp n cutoff w .filter ≡ holding capacity (firTaps w n cutoff) (codeOf w)
+designed-is : (n : ℕ) (cutoff : Float) (w : WindowType) → firLp n cutoff w .refusal ≡ 0 → firLp n cutoff w .filter ≡ holding maxTaps (firTaps w n cutoff) (codeOf w)
 unfolding firLp
 designed-is n cutoff w = go (eqb (validateFir n cutoff) 0) refl
   where
-    go : (b : Bool) → eqb (validateFir n cutoff) 0 ≡ b → (let m : Made = cond b (record { refusal = Accepted; filter = holding capacity (firTaps w n cutoff) (codeOf w) }) (record { refusal = validateFir n cutoff; filter = blankTaps capacity }) in m .refusal ≡ 0 → m .filter ≡ holding capacity (firTaps w n cutoff) (codeOf w))
+    go : (b : Bool) → eqb (validateFir n cutoff) 0 ≡ b → (let m : Made = cond b (record { refusal = Accepted; filter = holding maxTaps (firTaps w n cutoff) (codeOf w) }) (record { refusal = validateFir n cutoff; filter = blankTaps maxTaps }) in m .refusal ≡ 0 → m .filter ≡ holding maxTaps (firTaps w n cutoff) (codeOf w))
     go true e r = refl
     go false e r = absurd (eqb-false (validateFir n cutoff) 0 e r)
 
@@ -171,7 +172,7 @@ returns c = record {
   chebyshevII = λ n cutoff db rate. prototype-made (validateChebyshev cutoff db rate n) (cheb2Prototype n db (warped cutoff rate)) n _ refl (chebyshev2-fresh n cutoff db rate);
   bandPass = λ n low high rate. band-made (validateBand low high rate n) n (warped low rate) (warped high rate) _ refl (bandpass-fresh n low high rate);
   firLowPass = designed-made;
-  readyMade = λ coeffs. taps-made (fromCoeffs capacity coeffs) coeffs ReadyMade (ready-is coeffs) (ready-made-fresh capacity binary64 coeffs);
+  readyMade = λ coeffs. taps-made (fromCoeffs maxTaps coeffs) coeffs ReadyMade (ready-is coeffs) (ready-made-fresh maxTaps binary64 coeffs);
 }
 
 pub c-made-filters-are-fresh-spec : {M : Type 1} → statement M

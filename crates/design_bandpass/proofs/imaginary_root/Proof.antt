@@ -1,7 +1,7 @@
 -- `design_bandpass::imaginary_root` meets its contract.
 use mathlib.Core.Path.{_∙_, ap, sym}
 use lib.Ieee.{lt}
-use Rattle.scalar.specs.Constants.{plusZero}
+use Rattle.limits.specs.Zero.{plusZero}
 use Rattle.design_bandpass.specs.BandPass.{imaginaryRoot}
 use borrow.Author.Needs.{needs}
 use Rattle.design_bandpass.proofs.imaginary_root.Statement.{statement}

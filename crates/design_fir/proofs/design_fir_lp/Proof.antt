@@ -1,7 +1,7 @@
 -- `design_fir::design_fir_lp` meets its contract.
 use mathlib.Core.Path.{sym, ap, _∙_}
 use Rattle.fir_theory.specs.Fir.{TapsRecord}
-use Rattle.fir_theory.specs.Lent.{capacity}
+use Rattle.limits.specs.Limits.{maxTaps}
 use Rattle.design_checks.proofs.Laws.{good-fir}
 use Rattle.design_fir.proofs.Taps.{taps-done, fir-refused, fir-accepted}
 use borrow.Author.Needs.{needs}
@@ -28,7 +28,7 @@ returns-2 c = let n = c .before in
     let e = n .before .before .before in
     let a = e .before .before .before .args in
     fir-accepted (a .taps) (a .cutoff) (a .window) (e .before .before .validate-fir .ensures) (e .if1 .left) (ap (λ (r : TapsRecord). r .samples) (e .before .blank .ensures))
-    (taps-done (a .window) (a .taps) capacity (a .cutoff) (n .before .windowed .ensures) (n .normalised .ensures)) (c .window-code .ensures)
+    (taps-done (a .window) (a .taps) maxTaps (a .cutoff) (n .before .windowed .ensures) (n .normalised .ensures)) (c .window-code .ensures)
 
 pub design-fir-lp-spec : {M : Type 1} → statement M
 design-fir-lp-spec =

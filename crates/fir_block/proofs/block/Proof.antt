@@ -12,7 +12,8 @@ use Rattle.runs.specs.Runs.{block}
 use Rattle.runs.proofs.Laws.{block-short}
 use Rattle.runs.proofs.Lent.{lent-good, lent-block, lent-block-refused}
 use Rattle.fir_theory.specs.Fir.{TapsRecord, checkTaps, fir}
-use Rattle.fir_theory.specs.Lent.{capacity, lentTaps, fits}
+use Rattle.limits.specs.Limits.{maxTaps}
+use Rattle.fir_theory.specs.Lent.{lentTaps, fits}
 use Rattle.fir_theory.proofs.Laws.{sizes, fits-lengths}
 use Rattle.fir_theory.specs.Blocks.{ranBlock}
 use Rattle.fir_theory.proofs.Long.{front-full, parts-join}
@@ -27,15 +28,15 @@ start e = e .before .before .before .before .before .before .before
 abbrev lent-of : tie.Else1 → TapsRecord
 lent-of e = let a = start e .args in lentTaps (a .taps .now) (a .samples .now) (a .n) (a .held) (a .window)
 
-good : (e : tie.Else1) → (fits capacity (lent-of e) ≡ true) × (checkTaps capacity (lent-of e) ≡ true)
-good e = lent-good (fir capacity binary64) (fits capacity) (lent-of e) (λ z. omega arith) (sym (e .before .refusal-of .ensures) ∙ e .if1 .left)
+good : (e : tie.Else1) → (fits maxTaps (lent-of e) ≡ true) × (checkTaps maxTaps (lent-of e) ≡ true)
+good e = lent-good (fir maxTaps binary64) (fits maxTaps) (lent-of e) (λ z. omega arith) (sym (e .before .refusal-of .ensures) ∙ e .if1 .left)
 
 returns : tie.Need-returns
-returns c = lent-block-refused (fir capacity binary64) (fits capacity) _ _ _ (c .before .refusal-of .ensures) (c .if1 .taken)
+returns c = lent-block-refused (fir maxTaps binary64) (fits maxTaps) _ _ _ (c .before .refusal-of .ensures) (c .if1 .taken)
 
 returns-2 : tie.Need-returns-2
 returns-2 c = let g = good (c .before) in
-    block-short (fir capacity binary64) _ _ _ (g .1) (c .if2 .taken) ∙ sym (lent-block (fir capacity binary64) (fits capacity) _ _ _ (g .0))
+    block-short (fir maxTaps binary64) _ _ _ (g .1) (c .if2 .taken) ∙ sym (lent-block (fir maxTaps binary64) (fits maxTaps) _ _ _ (g .0))
 
 -- ---- where the arms meet
 abbrev else1 : tie.Joined3 → tie.Else1
@@ -48,7 +49,7 @@ first-is : (j : tie.Joined3) → j .if3 .first ≡ min (length (start (else1 j) 
 first-is j = ⊎-elim (λ w. omega arith) (λ w. omega arith) (j .if3 .came)
 
 sub-missing : tie.Need-sub-missing
-sub-missing c = sizes capacity (lent-of (c .before)) (good (c .before) .1) .few
+sub-missing c = sizes maxTaps (lent-of (c .before)) (good (c .before) .1) .few
 
 pass-some-requires : tie.Need-pass-some-requires
 pass-some-requires c κs = let j = c .before .before in
@@ -58,25 +59,25 @@ pass-some-requires c κs = let j = c .before .before in
 returns-3 : tie.Need-returns-3
 returns-3 c = let j = c .before .before .before .before .before .before .before .before in
     let a = start (else1 j) .args in
-    c .before .before .before .before .before .pass-some .ensures ∙ ap (λ (l : List Float). block (fir capacity binary64) (lent-of (else1 j)) l (a .output .now)) (take-all (j .if3 .first) (a .input .now) (c .if4 .taken))
-    ∙ sym (lent-block (fir capacity binary64) (fits capacity) _ _ _ (good (else1 j) .0))
+    c .before .before .before .before .before .pass-some .ensures ∙ ap (λ (l : List Float). block (fir maxTaps binary64) (lent-of (else1 j)) l (a .output .now)) (take-all (j .if3 .first) (a .input .now) (c .if4 .taken))
+    ∙ sym (lent-block (fir maxTaps binary64) (fits maxTaps) _ _ _ (good (else1 j) .0))
 
 -- ---- the record after the first samples is full
 abbrev joined : tie.Else4 → tie.Joined3
 joined q = q .before .before .before .before .before .before .before .before
 
 full : (q : tie.Else4)
-    → (checkTaps capacity (lentTaps (start (else1 (joined q)) .args .taps .now) (q .before .before .before .before .before .pass-some .last .1 .0) (start (else1 (joined q)) .args .n) (q .before .before .before .before .before .pass-some .result .held) (start (else1 (joined q)) .args .window)) ≡ true)
+    → (checkTaps maxTaps (lentTaps (start (else1 (joined q)) .args .taps .now) (q .before .before .before .before .before .pass-some .last .1 .0) (start (else1 (joined q)) .args .n) (q .before .before .before .before .before .pass-some .result .held) (start (else1 (joined q)) .args .window)) ≡ true)
     × (q .before .before .before .before .before .pass-some .result .held ≡ start (else1 (joined q)) .args .n) × (length (q .before .before .before .before .before .pass-some .last .1 .1 .1 .1 .1 .1 .1 .0) ≡ length (start (else1 (joined q)) .args .output .now))
 full q = let j = joined q in
-    front-full capacity binary64 (lent-of (else1 j)) _ _ (j .if3 .first) (good (else1 j) .1) (omega (arith, first-is j)) (room j) (omega (arith, first-is j, q .if4 .left)) (q .before .before .before .before .before .pass-some .ensures)
+    front-full maxTaps binary64 (lent-of (else1 j)) _ _ (j .if3 .first) (good (else1 j) .1) (omega (arith, first-is j)) (room j) (omega (arith, first-is j, q .if4 .left)) (q .before .before .before .before .before .pass-some .ensures)
 
 pass-all-requires : tie.Need-pass-all-requires
 pass-all-requires c κs = let q = c .before .before in
     let j = joined q in
     let g = good (else1 j) in
-    let z = sizes capacity (lent-of (else1 j)) (g .1) in
-    let l = fits-lengths capacity (lent-of (else1 j)) (g .0) in
+    let z = sizes maxTaps (lent-of (else1 j)) (g .1) in
+    let l = fits-lengths maxTaps (lent-of (else1 j)) (g .0) in
     (z .some, z .within, l .0, q .before .before .before .before .samples .given ∙ l .1, omega (arith, first-is j), omega (arith, full q .2, room j))
 
 -- ---- both parts together
@@ -88,7 +89,7 @@ both : (a : tie.After-pass-all)
     × (ranBlock (rest a .before .before .before .before .before .pass-some .result .clouded + a .pass-all .result)
     (lentTaps (start (else1 (joined (rest a))) .args .taps .now) (a .pass-all .last .1 .0) (start (else1 (joined (rest a))) .args .n) (rest a .before .before .before .before .before .pass-some .result .held) (start (else1 (joined (rest a))) .args .window))
     (a .pass-all .last .1 .1 .1 .1 .1 .0)
-    ≡ block (fir capacity binary64) (lent-of (else1 (joined (rest a)))) (start (else1 (joined (rest a))) .args .input .now) (start (else1 (joined (rest a))) .args .output .now))
+    ≡ block (fir maxTaps binary64) (lent-of (else1 (joined (rest a)))) (start (else1 (joined (rest a))) .args .input .now) (start (else1 (joined (rest a))) .args .output .now))
 both a = let j = joined (rest a) in
     let f = full (rest a) in
     parts-join (lent-of (else1 j)) _ _ (j .if3 .first) (good (else1 j) .1) (omega (arith, first-is j)) (room j) (rest a .before .before .before .before .before .pass-some .ensures) (f .0) (f .1) (a .pass-all .ensures)
@@ -100,7 +101,7 @@ add-t17 c = let s = c .before .before .before .before .before .before .before .b
 
 returns-4 : tie.Need-returns-4
 returns-4 c = let a = c .before .before .before .before .before in
-    both a .1 ∙ sym (lent-block (fir capacity binary64) (fits capacity) _ _ _ (good (else1 (joined (a .before .before .before))) .0))
+    both a .1 ∙ sym (lent-block (fir maxTaps binary64) (fits maxTaps) _ _ _ (good (else1 (joined (a .before .before .before))) .0))
 
 pub block-spec : {M : Type 1} → statement M
 block-spec =

@@ -5,7 +5,8 @@ use mathlib.Core.Logic.{⊎-elim}
 use native.Mathlib.Omega.{arith}
 use lib.ListN.{length}
 use lib.Ieee.{binary64}
-use Rattle.fir_theory.specs.Lent.{capacity, lentTaps}
+use Rattle.limits.specs.Limits.{maxTaps}
+use Rattle.fir_theory.specs.Lent.{lentTaps}
 use Rattle.fir_theory.proofs.Long.{count-long, after-long, output-long}
 use borrow.Author.Needs.{needs}
 use Rattle.fir_block.proofs.pass_all.Statement.{statement}
@@ -38,9 +39,9 @@ returns c = λ window g. let j = c .before .before .before .before .before .befo
     let p = s .pre in
     let w = c .before .before .before .before .before .before .before .before .before .before .before .before .before .before .before .before .before .before .window-of .ensures in
     let r = lentTaps (s .args .taps .now) (s .args .samples .now) (s .args .n) (s .args .n) window in (
-      count-long capacity binary64 r _ _ _ _ g refl (p .2) (p .3) (p .4) refl (few-is j) (c .before .before .before .before .before .before .finite-run .ensures) (c .before .before .before .before .before .count-clouded .ensures),
-      after-long capacity binary64 r _ _ _ _ g refl (p .2) (p .3) (p .4) refl (few-is j) _ (w .1) (c .before .before .keep-newest .ensures),
-      output-long capacity binary64 r _ _ _ _ g refl (p .2) (p .3) (p .4) refl (few-is j) _ (w .1) _ (p .5) (omega (arith, w .0, few-is j, p .1)) _ (c .before .before .before .before .before .before .before .before .before .before .before .before .before .before .before .convolve .ensures .1) (c .before .before .before .before .before .before .before .before .before .before .convolve2 .ensures .1),
+      count-long maxTaps binary64 r _ _ _ _ g refl (p .2) (p .3) (p .4) refl (few-is j) (c .before .before .before .before .before .before .finite-run .ensures) (c .before .before .before .before .before .count-clouded .ensures),
+      after-long maxTaps binary64 r _ _ _ _ g refl (p .2) (p .3) (p .4) refl (few-is j) _ (w .1) (c .before .before .keep-newest .ensures),
+      output-long maxTaps binary64 r _ _ _ _ g refl (p .2) (p .3) (p .4) refl (few-is j) _ (w .1) _ (p .5) (omega (arith, w .0, few-is j, p .1)) _ (c .before .before .before .before .before .before .before .before .before .before .before .before .before .before .before .convolve .ensures .1) (c .before .before .before .before .before .before .before .before .before .before .convolve2 .ensures .1),
     )
 
 pub pass-all-spec : {M : Type 1} → statement M

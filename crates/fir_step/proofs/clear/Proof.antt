@@ -4,7 +4,7 @@ use mathlib.Core.Path.{refl}
 use native.Mathlib.Omega.{arith}
 use lib.ListN.{length, replicate}
 use lib.Ieee.{ofBits}
-use Rattle.runs.specs.Runs.{plusZero}
+use Rattle.limits.specs.Zero.{plusZero}
 use Rattle.lists.proofs.Copies.{copy-start}
 use Rattle.fir_theory.proofs.Laws.{Clearing, clear-turn, clear-done}
 use Rattle.fir_step.proofs.clear.Statement.{statement}

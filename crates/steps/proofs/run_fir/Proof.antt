@@ -5,20 +5,20 @@ use lib.ListN.{length}
 use lib.Ieee.{binary64}
 use borrow.Author.Needs.{needs}
 use Rattle.fir_theory.specs.Fir.{fir}
-use Rattle.fir_theory.specs.Lent.{capacity}
+use Rattle.limits.specs.Limits.{maxTaps}
 use Rattle.fir.specs.View.{tapsView}
 use Rattle.runs.proofs.Laws.{Stepping, steps-start, steps-turn, steps-done}
 use Rattle.steps.proofs.run_fir.Statement.{statement}
 use Rattle.steps.proofs.run_fir.Tie as tie
 
 abbrev Inv-loop : tie.InvT-loop
-Inv-loop input output₀ f₀ i₀ output f i = (i ≤ length input) × Stepping (fir capacity binary64) (tapsView f₀) input output₀ (tapsView f) output i
+Inv-loop input output₀ f₀ i₀ output f i = (i ≤ length input) × Stepping (fir maxTaps binary64) (tapsView f₀) input output₀ (tapsView f) output i
 
 abbrev μ-loop : tie.MeasureT-loop
 μ-loop input output₀ f₀ i₀ output f i = length input - i
 
 loop-holds : tie.Need-loop-holds Inv-loop μ-loop
-loop-holds c = (omega arith, steps-start (fir capacity binary64) _ _ _)
+loop-holds c = (omega arith, steps-start (fir maxTaps binary64) _ _ _)
 
 slice-read-place : tie.Need-slice-read-place Inv-loop μ-loop
 slice-read-place c = let l = c .before .before .before .before in omega (arith, l .loop .inv .1 .same, l .before .before .before .pre, c .before .before .before .loop-test .taken)
@@ -29,13 +29,13 @@ slice-write-output c = let l = c .before .before .before .before .before in omeg
 loop-again : tie.Need-loop-again Inv-loop μ-loop
 loop-again c = let l = c .before .before .before .before .before .before in
     let h = c .before .before .before .before .before .loop-test .taken in
-    (omega arith, steps-turn (fir capacity binary64) _ _ _ h (omega (arith, l .loop .inv .1 .same, l .before .before .before .pre)) (c .before .before .before .update .ensures) (c .before .place .ensures) (l .loop .inv .1))
+    (omega arith, steps-turn (fir maxTaps binary64) _ _ _ h (omega (arith, l .loop .inv .1 .same, l .before .before .before .pre)) (c .before .before .before .update .ensures) (c .before .place .ensures) (l .loop .inv .1))
 
 same-length : tie.Need-same-length Inv-loop μ-loop
 same-length c = c .before .loop .inv .1 .same
 
 returns : tie.Need-returns Inv-loop μ-loop
-returns c = steps-done (fir capacity binary64) _ _ _ (omega (arith, c .loop-test .left)) (c .before .loop .inv .1)
+returns c = steps-done (fir maxTaps binary64) _ _ _ (omega (arith, c .loop-test .left)) (c .before .loop .inv .1)
 
 pub run-fir-spec : {M : Type 1} → statement M
 run-fir-spec =

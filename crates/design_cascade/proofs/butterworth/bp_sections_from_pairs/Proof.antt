@@ -7,7 +7,7 @@ use native.Mathlib.Omega.{arith}
 use borrow.Author.Needs.{needs}
 use Rattle.sections.specs.View.{sectionView}
 use Rattle.design_cascade.specs.Design.{padded}
-use Rattle.design_bandpass.specs.BandPass.{BiquadPair}
+use Rattle.design_bandpass.specs.BandPass.{SectionPairRecord}
 use Rattle.design_cascade.specs.BandPass.{bpUpTo}
 use Rattle.design_cascade.proofs.Places.{band-none, band-turn}
 use Rattle.design_cascade.proofs.butterworth.bp_sections_from_pairs.Statement.{statement}
@@ -59,7 +59,7 @@ loop-again c = let l = c .before .before .before .before .loop in
     let h = s .pre .1 in
     let p = c .before .before .bp-pair in (
       band-turn (a .order) (a .bw) (a .omega0-sq) sectionView (l .sections) (l .m) (p .result .bq1) (p .result .bq2) (l .inv .0) (omega arith)
-          (ap (λ (b : BiquadPair). b .bq1) (p .ensures)) (ap (λ (b : BiquadPair). b .bq2) (p .ensures)),
+          (ap (λ (b : SectionPairRecord). b .bq1) (p .ensures)) (ap (λ (b : SectionPairRecord). b .bq2) (p .ensures)),
       omega arith,
     )
 

@@ -4,7 +4,8 @@ use lib.Ieee.{binary64}
 use lib.ListN.{length}
 use Rattle.runs.proofs.Lent.{lent-block}
 use Rattle.fir_theory.specs.Fir.{fir}
-use Rattle.fir_theory.specs.Lent.{capacity, fits}
+use Rattle.limits.specs.Limits.{maxTaps}
+use Rattle.fir_theory.specs.Lent.{fits}
 use Rattle.fir_theory.proofs.Laws.{lengths-fit}
 use borrow.Author.Needs.{needs}
 use Rattle.fir.proofs.TapRecord.block.Statement.{statement}
@@ -12,9 +13,9 @@ use Rattle.fir.proofs.TapRecord.block.Tie as tie
 
 returns : tie.Need-returns
 returns c = let s = c .before .before .before .before .before .before .before .before .before .before .before in
-    let t : length (s .args .self .taps) ≡ capacity = search needs in
-    let h : length (s .args .self .samples) ≡ capacity = search needs in
-    c .before .before .before .block .ensures ∙ lent-block (fir capacity binary64) (fits capacity) _ _ _ (lengths-fit capacity _ t h)
+    let t : length (s .args .self .taps) ≡ maxTaps = search needs in
+    let h : length (s .args .self .samples) ≡ maxTaps = search needs in
+    c .before .before .before .block .ensures ∙ lent-block (fir maxTaps binary64) (fits maxTaps) _ _ _ (lengths-fit maxTaps _ t h)
 
 pub block-spec : {M : Type 1} → statement M
 block-spec =

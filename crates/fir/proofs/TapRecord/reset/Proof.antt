@@ -4,7 +4,8 @@ use lib.Ieee.{binary64}
 use lib.ListN.{length}
 use Rattle.runs.proofs.Lent.{lent-reset}
 use Rattle.fir_theory.specs.Fir.{fir}
-use Rattle.fir_theory.specs.Lent.{capacity, fits}
+use Rattle.limits.specs.Limits.{maxTaps}
+use Rattle.fir_theory.specs.Lent.{fits}
 use Rattle.fir_theory.proofs.Laws.{lengths-fit}
 use borrow.Author.Needs.{needs}
 use Rattle.fir.proofs.TapRecord.reset.Statement.{statement}
@@ -12,9 +13,9 @@ use Rattle.fir.proofs.TapRecord.reset.Tie as tie
 
 returns : tie.Need-returns
 returns c = let s = c .before .before .before .before .before .before in
-    let t : length (s .args .self .taps) ≡ capacity = search needs in
-    let h : length (s .args .self .samples) ≡ capacity = search needs in
-    c .before .reset .ensures ∙ lent-reset (fir capacity binary64) (fits capacity) _ (lengths-fit capacity _ t h)
+    let t : length (s .args .self .taps) ≡ maxTaps = search needs in
+    let h : length (s .args .self .samples) ≡ maxTaps = search needs in
+    c .before .reset .ensures ∙ lent-reset (fir maxTaps binary64) (fits maxTaps) _ (lengths-fit maxTaps _ t h)
 
 pub reset-spec : {M : Type 1} → statement M
 reset-spec =

@@ -1,8 +1,8 @@
--- `parts::turn` meets its contract.
+-- `sections::parts::turn` meets its contract.
 use mathlib.Core.Path.{refl}
 use borrow.Author.Needs.{needs}
-use Rattle.parts.proofs.turn.Statement.{statement}
-use Rattle.parts.proofs.turn.Tie as tie
+use Rattle.sections.proofs.parts.turn.Statement.{statement}
+use Rattle.sections.proofs.parts.turn.Tie as tie
 
 returns : tie.Need-returns
 returns c = rw (c .before .if1 .taken) (c .process .ensures)

@@ -1,8 +1,8 @@
--- `parts::enter` meets its contract.
+-- `sections::parts::enter` meets its contract.
 use mathlib.Core.Path.{refl}
 use borrow.Author.Needs.{needs}
-use Rattle.parts.proofs.enter.Statement.{statement}
-use Rattle.parts.proofs.enter.Tie as tie
+use Rattle.sections.proofs.parts.enter.Statement.{statement}
+use Rattle.sections.proofs.parts.enter.Tie as tie
 
 returns : tie.Need-returns
 returns c = simp (c .before .if1 .taken) (c .process .ensures)

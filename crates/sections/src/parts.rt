@@ -6,20 +6,18 @@ ghost use mathlib.Core.List.{map};
 ghost use lib.Ieee.{binary64};
 ghost use Rattle.cascade_theory.specs.Section.{clearedSection, sectionOut, sectionNext};
 ghost use Rattle.cascade_theory.specs.FirstOrder.{firstOut, firstNext};
 ghost use Rattle.sections.specs.View.{sectionView, firstView};
 ghost use Rattle.cascade_theory.specs.Parts.{sectionsOut, sectionsNext};
-use sections::FirstOrder;
-use sections::FirstOrderResult;
-use sections::ProcessResult;
-use sections::Section;
-
-// How many sections there are.
-pub const MAX_SECTIONS: usize = 4;
+use super::first_order::FirstOrder;
+use super::first_order::FirstOrderResult;
+use super::section::ProcessResult;
+use super::section::Section;
+use limits::MAX_SECTIONS;
 
 // A number that came out of the sections, and the sections after it.
 pub struct PassResult {
     pub out: f64,
-    pub sections: [Section; 4],
+    pub sections: [Section; MAX_SECTIONS],
 }
 
 // A sample through the first-order part where it is used.
@@ -48,7 +46,7 @@ fn turn(used: bool, section: Section, x: f64) -> ProcessResult
 
 // A sample through the first `count` sections, from section 0 upward, and through all where that is above 4: four turns, so
 // that no place depends on the count.
-pub fn pass_sections(sections: [Section; 4], count: usize, x: f64) -> PassResult
+pub fn pass_sections(sections: [Section; MAX_SECTIONS], count: usize, x: f64) -> PassResult
     ensures { λ r. ⌜ (r .out ≡ sectionsOut binary64 count (map sectionView sections) x)
         × (map sectionView (r .sections) ≡ sectionsNext binary64 count (map sectionView sections) x) ⌝ }
 {
@@ -67,7 +65,7 @@ pub fn pass_sections(sections: [Section; 4], count: usize, x: f64) -> PassResult
 }
 
 // All four sections with carried values +0.
-pub fn reset_sections(sections: [Section; 4]) -> [Section; 4]
+pub fn reset_sections(sections: [Section; MAX_SECTIONS]) -> [Section; MAX_SECTIONS]
     ensures { λ r. ⌜ map sectionView r ≡ map clearedSection (map sectionView sections) ⌝ }
 {
     let mut kept = sections;

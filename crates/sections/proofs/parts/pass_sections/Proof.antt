@@ -1,13 +1,13 @@
--- `parts::pass_sections` meets its contract: four turns.
+-- `sections::parts::pass_sections` meets its contract: four turns.
 use mathlib.Core.Path.{_≡_}
 use native.Mathlib.Omega.{arith}
 use lib.ListN.{length}
 use lib.Ieee.{binary64}
 use Rattle.sections.specs.View.{sectionView}
 use Rattle.cascade_theory.proofs.Turns.{four-turns}
 use borrow.Author.Needs.{needs}
-use Rattle.parts.proofs.pass_sections.Statement.{statement}
-use Rattle.parts.proofs.pass_sections.Tie as tie
+use Rattle.sections.proofs.parts.pass_sections.Statement.{statement}
+use Rattle.sections.proofs.parts.pass_sections.Tie as tie
 
 returns : tie.Need-returns
 returns c = let s = c .before .before .before .before .before .before .before .before .before .before .before .before in

@@ -1,4 +1,4 @@
--- `parts::reset_sections` meets its contract. The loop's invariant: the first i sections are cleared. The measure is how many are left.
+-- `sections::parts::reset_sections` meets its contract. The loop's invariant: the first i sections are cleared. The measure is how many are left.
 use mathlib.Core.Path.{_≡_, _∙_}
 use mathlib.Core.List.{map}
 use Prim.Native.Nat.{_≤_, _<_, _-_}
@@ -6,10 +6,10 @@ use native.Mathlib.Omega.{arith}
 use borrow.Author.Needs.{needs}
 use lib.ListN.{length, length-map}
 use Rattle.cascade_theory.specs.Section.{clearedSection}
 use Rattle.sections.specs.View.{sectionView}
 use Rattle.cascade_theory.proofs.Loops.{upTo, upTo-none, upTo-turn, upTo-all}
-use Rattle.parts.proofs.reset_sections.Statement.{statement}
-use Rattle.parts.proofs.reset_sections.Tie as tie
+use Rattle.sections.proofs.parts.reset_sections.Statement.{statement}
+use Rattle.sections.proofs.parts.reset_sections.Tie as tie
 
 abbrev Inv-loop : tie.InvT-loop
 Inv-loop kept₀ i₀ kept i = (i ≤ 4) × (map sectionView kept ≡ upTo clearedSection i (map sectionView kept₀))

@@ -1,0 +1,3 @@
+-- 01's limits, and +0.
+pub mod Limits
+pub mod Zero
