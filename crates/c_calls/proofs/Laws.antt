@@ -14,12 +14,11 @@ use Rattle.runs.proofs.Lent.{lent-step, lent-reset, lent-block, unfit-step, unf
 use Rattle.fir_theory.specs.Fir.{TapsRecord, Made, fir}
 use Rattle.limits.specs.Limits.{maxTaps}
 use Rattle.fir_theory.specs.Lent.{lentTaps, fits}
-use Rattle.design_cascade.specs.Design.{DesignRecord}
 use Rattle.cascade_theory.specs.Cascade.{CascadeRecord, blankCascade}
 use Rattle.c_layout.proofs.Laws.{fits-places, cond-true}
 use Rattle.c_layout.specs.Layout.{flag, cascadeAt, cascadePlaces, cascadeFits, cascadeNumbers, cascadeCounts}
 use Rattle.c_calls.specs.Kinds.{Kind, tapsCounts, tapsAt, tapsFit, firKind}
-use Rattle.c_calls.specs.Calls.{Call, Stored, TapsStored, recordOf, fitting, unchanged, stepCall, blockCall, resetCall, notStored, designCall, tapsUnchanged, tapsPlaces, madeCall}
+use Rattle.c_calls.specs.Calls.{Call, Stored, recordOf, fitting, unchanged, stepCall, blockCall, resetCall, notStored}
 use Rattle.c_layout.proofs.Places.{both, set-middle}
 
 -- ---- a cascade read from slices that fit, and written into slices that have its places
@@ -34,18 +33,6 @@ module _ (ns : List Float) (cs : List ℕ) where
   counts-are c h e = e ∙ cond-true (cascadePlaces ns cs) (cascadeCounts c) cs h
 
 -- ---- the tests of lengths
-
--- slices of a tap record
-pub taps-last : (ts ss : List Float) (cs : List ℕ) → length ts ≡ maxTaps → length ss ≡ maxTaps → eqb (length cs) 3 ≡ tapsPlaces ts ss cs
-unfolding tapsPlaces
-taps-last ts ss cs h k = rw (eq-eqb (length ts) maxTaps h, eq-eqb (length ss) maxTaps k)
-
-pub taps-lengths : (ts ss : List Float) (cs : List ℕ) → tapsPlaces ts ss cs ≡ true → (length ts ≡ maxTaps) × (length ss ≡ maxTaps) × (length cs ≡ 3)
-unfolding tapsPlaces
-taps-lengths ts ss cs h =
-    let p = both (eqb (length ts) maxTaps) (eqb (length ss) maxTaps && eqb (length cs) 3) h in
-    let q = both (eqb (length ss) maxTaps) (eqb (length cs) 3) (p .1) in
-    (eqb-true (length ts) maxTaps (p .0), eqb-true (length ss) maxTaps (q .0), eqb-true (length cs) 3 (q .1))
 
 pub single-lengths : (answer : List Float) (tally : List ℕ) → (eqb (length answer) 1 && eqb (length tally) 1) ≡ true → (length answer ≡ 1) × (length tally ≡ 1)
 single-lengths answer tally h = let p = both (eqb (length answer) 1) (eqb (length tally) 1) h in (eqb-true (length answer) 1 (p .0), eqb-true (length tally) 1 (p .1))
@@ -124,35 +111,6 @@ module _ (K : Kind) (ns : List Float) (cs : List ℕ) where
       → _≡_ {A = Stored} (record { refusal = Accepted; numbers = ns′; counts = cs′ }) (resetCall K ns cs)
   unfolding resetCall
   reset-accepted {n} e k en ec = rw (← e, eq-eqb n 0 k, en, ec)
-
--- ---- designs
-module _ (d : DesignRecord) (ns : List Float) (cs : List ℕ) where
-  pub design-unfit : cascadePlaces ns cs ≡ false → notStored ns cs BadCall ≡ designCall d ns cs
-  unfolding designCall
-  design-unfit h = rw h
-
-  pub design-refused : cascadePlaces ns cs ≡ true → (d .refusal ≡ 0 → ⊥) → notStored ns cs (d .refusal) ≡ designCall d ns cs
-  unfolding designCall
-  design-refused h k = rw (h, ne-eqb (d .refusal) 0 k)
-
-  pub design-accepted : {ns′ : List Float} {cs′ : List ℕ} → cascadePlaces ns cs ≡ true → d .refusal ≡ 0 → ns′ ≡ cascadeNumbers (d .cascade) → cs′ ≡ cascadeCounts (d .cascade)
-      → _≡_ {A = Stored} (record { refusal = Accepted; numbers = ns′; counts = cs′ }) (designCall d ns cs)
-  unfolding designCall
-  design-accepted h k en ec = rw (h, eq-eqb (d .refusal) 0 k, en, ec)
-
-module _ (m : Made) (ts ss : List Float) (cs : List ℕ) where
-  pub made-unfit : tapsPlaces ts ss cs ≡ false → tapsUnchanged ts ss cs BadCall ≡ madeCall ts ss cs m
-  unfolding madeCall
-  made-unfit h = rw h
-
-  pub made-refused : tapsPlaces ts ss cs ≡ true → (m .refusal ≡ 0 → ⊥) → tapsUnchanged ts ss cs (m .refusal) ≡ madeCall ts ss cs m
-  unfolding madeCall
-  made-refused h k = rw (h, ne-eqb (m .refusal) 0 k)
-
-  pub made-accepted : {ts′ ss′ : List Float} {cs′ : List ℕ} → tapsPlaces ts ss cs ≡ true → m .refusal ≡ 0 → ts′ ≡ m .filter .taps → ss′ ≡ m .filter .samples → cs′ ≡ tapsCounts (m .filter)
-      → _≡_ {A = TapsStored} (record { refusal = Accepted; taps = ts′; samples = ss′; counts = cs′ }) (madeCall ts ss cs m)
-  unfolding madeCall
-  made-accepted h k et es ec = rw (h, eq-eqb (m .refusal) 0 k, et, es, ec)
 
 -- ---- a tap record: its samples are changed where they stand
 module _ (ts ss : List Float) (cs : List ℕ) where

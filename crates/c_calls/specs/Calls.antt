@@ -1,20 +1,15 @@
--- What each call returns, and what every slice holds after it. A refused call leaves every slice.
+-- What each call that runs or resets a filter returns, and what every slice holds after it. A refused call leaves every slice.
 use Prim.Native.Nat.{ℕ}
 use mathlib.Core.Bool.{Bool, _&&_, cond}
 use mathlib.Core.List.{List, [], _∷_}
-use lib.Dec.{eqb, leb}
+use lib.Dec.{eqb}
 use lib.ListN.{length}
 use lib.Ieee.{Float}
 use Rattle.runs.specs.Refusals.{Accepted, BadCall}
 use Rattle.runs.specs.Runs.{numberOf, isClouded, refusalOf, Step, Block}
 use Rattle.runs.specs.Lent.{lentStep, lentReset, lentBlock}
-use Rattle.fir_theory.specs.Fir.{Made, Blackman}
-use Rattle.limits.specs.Limits.{maxTaps}
-use Rattle.design_fir.specs.Fir.{firLp}
-use Rattle.design_fir.specs.declared.WindowType.{WindowType}
-use Rattle.design_cascade.specs.Design.{DesignRecord}
-use Rattle.c_layout.specs.Layout.{flag, cascadePlaces, cascadeNumbers, cascadeCounts}
-use Rattle.c_calls.specs.Kinds.{Kind, tapsCounts}
+use Rattle.c_layout.specs.Layout.{flag}
+use Rattle.c_calls.specs.Kinds.{Kind}
 
 -- ---- a step and a block: the numbers and counts of the record, the places of the answers, and the place of the count of Clouded answers
 pub record Call : Type 0 where
@@ -75,39 +70,3 @@ unfoldable pub resetCall : Kind → List Float → List ℕ → Stored
 resetCall K numbers counts =
     let s = lentReset (K .filter) (fitting K numbers counts) (recordOf K numbers counts) in
     cond (eqb (s .refusal) Accepted) (record { refusal = Accepted; numbers = K .numbers (s .state); counts = K .counts (s .state) }) (notStored numbers counts (s .refusal))
-
--- ---- a cascade's design into slices
-unfoldable pub designCall : DesignRecord → List Float → List ℕ → Stored
-designCall d numbers counts =
-    cond (cascadePlaces numbers counts)
-    (cond (eqb (d .refusal) Accepted) (record { refusal = Accepted; numbers = cascadeNumbers (d .cascade); counts = cascadeCounts (d .cascade) }) (notStored numbers counts (d .refusal)))
-    (notStored numbers counts BadCall)
-
--- ---- taps, designed or ready-made, into slices
-
--- the window of a code
-abbrev pub windowOf : ℕ → WindowType
-windowOf n = cond (eqb n 0) WindowType.Rectangular (cond (eqb n 1) WindowType.Hamming (cond (eqb n 2) WindowType.Hanning WindowType.Blackman))
-
-pub record TapsStored : Type 0 where
-  pub refusal : ℕ
-  pub taps : List Float
-  pub samples : List Float
-  pub counts : List ℕ
-
-module _ (taps samples : List Float) (counts : List ℕ) where
-  abbrev pub tapsUnchanged : ℕ → TapsStored
-  tapsUnchanged n = record { refusal = n; taps = taps; samples = samples; counts = counts }
-
-  unfoldable pub tapsPlaces : Bool
-  tapsPlaces = eqb (length taps) maxTaps && (eqb (length samples) maxTaps && eqb (length counts) 3)
-
-  unfoldable pub madeCall : Made → TapsStored
-  madeCall m =
-      cond tapsPlaces
-      (cond (eqb (m .refusal) Accepted) (record { refusal = Accepted; taps = m .filter .taps; samples = m .filter .samples; counts = tapsCounts (m .filter) }) (tapsUnchanged (m .refusal)))
-      (tapsUnchanged BadCall)
-
-  -- a FIR design by the window's code; there is none above 3
-  unfoldable pub firCall : ℕ → Float → ℕ → TapsStored
-  firCall n cutoff window = cond (leb window Blackman) (madeCall (firLp n cutoff (windowOf window))) (tapsUnchanged BadCall)

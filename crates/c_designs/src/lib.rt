@@ -2,7 +2,7 @@
 ghost use mathlib.Core.Path.{_≡_};
 ghost use Rattle.fir.specs.View.{madeView};
 ghost use Rattle.design_cascade.specs.View.{designView};
-ghost use Rattle.c_calls.specs.Calls.{designCall, tapsPlaces, madeCall, windowOf};
+ghost use Rattle.c_designs.specs.Designs.{designCall, tapsPlaces, madeCall, windowOf};
 use c_layout::COUNTS;
 use c_layout::has_places;
 use c_layout::put_counts;

@@ -4,7 +4,7 @@ ghost use Rattle.fir_theory.specs.Fir.{fromCoeffs};
 ghost use Rattle.limits.specs.Limits.{maxTaps};
 ghost use Rattle.design_cascade.specs.LowPass.{butterworthLp, butterworthHp, chebyshev1Lp, chebyshev2Lp};
 ghost use Rattle.design_cascade.specs.BandPass.{butterworthBp};
-ghost use Rattle.c_calls.specs.Calls.{designCall, madeCall, firCall};
+ghost use Rattle.c_designs.specs.Designs.{designCall, madeCall, firCall};
 use c_designs::hand_out;
 use c_designs::hand_out_taps;
 use c_designs::window_of;

@@ -19,7 +19,7 @@ use Rattle.fir_theory.specs.Fir.{Made}
 use Rattle.design_cascade.specs.Design.{DesignRecord}
 use Rattle.c_layout.specs.Layout.{cascadeAt, cascadeFits}
 use Rattle.c_calls.specs.Kinds.{tapsAt, tapsFit}
-use Rattle.c_calls.specs.Calls.{designCall, TapsStored, madeCall, firCall}
+use Rattle.c_designs.specs.Designs.{designCall, TapsStored, madeCall, firCall}
 
 pub record AcceptedIsFresh : Type 0 where
   pub lowPass : (n : ℕ) (cutoff rate : Float) → butterworthLp n cutoff rate .refusal ≡ 0 → FreshCascade (butterworthLp n cutoff rate .cascade)

@@ -4,7 +4,7 @@
 ghost use mathlib.Core.Path.{_≡_};
 ghost use mathlib.Core.Bool.{true};
 ghost use mathlib.Core.List.{_++_};
-ghost use Prim.Native.Nat.{_+_, _-_, _≤_, _<_, min};
+ghost use Prim.Native.Nat.{_+_, _-_, _*_, _≤_, _<_, min};
 ghost use lib.ListN.{length, take, drop};
 ghost use lib.Ieee.{binary64};
 ghost use Rattle.runs.specs.Runs.{block};
@@ -14,6 +14,7 @@ ghost use Rattle.fir_theory.specs.Fir.{checkTaps, fir};
 ghost use Rattle.limits.specs.Limits.{maxTaps};
 ghost use Rattle.fir_theory.specs.Lent.{lentTaps, fits};
 ghost use Rattle.fir_theory.specs.Blocks.{backFrom, finiteRun, ageAfter, cloudsFrom, newestOf, ranBlock, FullRun};
+use limits::MAX_TAPS;
 
 // What a block returns: 0 or the refusal number, how many answers were Clouded, and the held count after it.
 pub struct BlockResult {
@@ -96,30 +97,31 @@ fn count_clouded(n: usize, age: usize, input: &[f64], from: usize) -> usize
     clouded
 }
 
-fn empty_window() -> [f64; 128]
-    ensures { λ r. ⌜ length r ≡ 128 ⌝ }
+// A delay line's places: those of a record's samples, and as many behind them.
+fn empty_line() -> [f64; 2 * MAX_TAPS]
+    ensures { λ r. ⌜ length r ≡ 2 * maxTaps ⌝ }
 {
-    [0.0; 128]
+    [0.0; 2 * MAX_TAPS]
 }
 
 // The n held samples, oldest first, and behind them m samples of the input from place `from` on.
-fn window_of(samples: &[f64], n: usize, input: &[f64], from: usize, m: usize) -> [f64; 128]
+fn line_of(samples: &[f64], n: usize, input: &[f64], from: usize, m: usize) -> [f64; 2 * MAX_TAPS]
     requires { ⌜ (1 ≤ n) × (n ≤ maxTaps) × (n ≤ length (now samples)) × (m ≤ n) × (from + m ≤ length (now input)) ⌝ }
-    ensures { λ r. ⌜ (length r ≡ 128) × (take (n + m) r ≡ backFrom n (now (samples .entry)) (n - 1) ++ take m (drop from (now (input .entry)))) ⌝ }
+    ensures { λ r. ⌜ (length r ≡ 2 * maxTaps) × (take (n + m) r ≡ backFrom n (now (samples .entry)) (n - 1) ++ take m (drop from (now (input .entry)))) ⌝ }
 {
-    let mut window = empty_window();
-    copy_back(samples, n - 1, n, &mut window);
-    copy_on(input, from, m, &mut window, n);
-    window
+    let mut line = empty_line();
+    copy_back(samples, n - 1, n, &mut line);
+    copy_on(input, from, m, &mut line, n);
+    line
 }
 
-// The newest n samples after m of the input, the last of which ends it: from the window where they are fewer than n.
-fn keep_newest(samples: &mut [f64], n: usize, window: &[f64], input: &[f64], m: usize)
-    requires { ⌜ (1 ≤ n) × (n ≤ length (now samples)) × (n + n ≤ length (now window)) × (m ≤ length (now input)) ⌝ }
-    ensures { λ _. ⌜ now (samples .exit) ≡ newestOf n (now (window .entry)) (now (input .entry)) m ++ drop n (now (samples .entry)) ⌝ }
+// The newest n samples after m of the input, the last of which ends it: from the line where they are fewer than n.
+fn keep_newest(samples: &mut [f64], n: usize, line: &[f64], input: &[f64], m: usize)
+    requires { ⌜ (1 ≤ n) × (n ≤ length (now samples)) × (n + n ≤ length (now line)) × (m ≤ length (now input)) ⌝ }
+    ensures { λ _. ⌜ now (samples .exit) ≡ newestOf n (now (line .entry)) (now (input .entry)) m ++ drop n (now (samples .entry)) ⌝ }
 {
     if m < n {
-        copy_back(window, n + m - 1, n, samples);
+        copy_back(line, n + m - 1, n, samples);
     } else {
         copy_back(input, input.len() - 1, n, samples);
     }
@@ -139,12 +141,12 @@ fn pass_all(
 {
     let m = input.len() - from;
     let few = if m < n { m } else { n };
-    let window = window_of(samples, n, input, from, few);
-    fir_sums::convolve(taps, n, &window, n, output, from, few);
+    let line = line_of(samples, n, input, from, few);
+    fir_sums::convolve(taps, n, &line, n, output, from, few);
     fir_sums::convolve(taps, n, input, from + few, output, from + few, m - few);
     let age = finite_run(samples, n);
     let clouded = count_clouded(n, age, input, from);
-    keep_newest(samples, n, &window, input, m);
+    keep_newest(samples, n, &line, input, m);
     clouded
 }
 

@@ -1,10 +1,10 @@
 -- Laws: loops over taps and samples, the check, and what a step and a reset return. Fresh: records that hold no sample. Forgetting: the forgetting rule. Sums, Copies, Full,
--- Window and Long: a long block.
+-- Line and Long: a long block.
 pub mod Laws
 pub mod Fresh
 pub mod Forgetting
 pub mod Sums
 pub mod Copies
 pub mod Full
-pub mod Window
+pub mod Line
 pub mod Long

@@ -20,7 +20,7 @@ use Rattle.limits.specs.Limits.{maxTaps as places}
 use Rattle.fir_theory.specs.Lent.{lentTaps}
 use Rattle.fir_theory.proofs.Laws.{sizes, check-next}
 use Rattle.fir_theory.proofs.Full.{Full, values, answers-full, after-full, written-told, count-told, held-after}
-use Rattle.fir_theory.proofs.Window.{newest-of-few, newest-of-many, second-stretch, both-stretches}
+use Rattle.fir_theory.proofs.Line.{newest-of-few, newest-of-many, second-stretch, both-stretches}
 
 spliced-none : (output : List Float) (to : ℕ) → spliced output to [] ≡ output
 unfolding spliced
@@ -51,7 +51,7 @@ module _ (capacity : ℕ) (f : Format) (r : TapsRecord) (input : List Float) (fr
       c ∙ ap (λ (z : ℕ). cloudsFrom (r .length) z (drop from input)) a ∙ sym (count-told f (r .taps) (r .length) (r .samples) (drop from input) room-samples)
       ∙ ap cloudedIn (sym (answers-full capacity f (r .taps) (r .length) (drop from input) is-full))
 
-  module _ (W : List Float) (window : take (r .length + e) W ≡ backFrom (r .length) (r .samples) (r .length - 1) ++ take e (drop from input)) where
+  module _ (W : List Float) (line : take (r .length + e) W ≡ backFrom (r .length) (r .samples) (r .length - 1) ++ take e (drop from input)) where
     most : e ≤ length (drop from input)
     most = omega (arith, length-drop from input)
 
@@ -63,11 +63,11 @@ module _ (capacity : ℕ) (f : Format) (r : TapsRecord) (input : List Float) (fr
         go true t =
             let h = ltb-true m (r .length) t in
             let a : r .length + m - 1 ≡ r .length - 1 + e = omega (arith, some) in
-            ap (backFrom (r .length) W) a ∙ newest-of-few f (r .taps) (r .length) (r .samples) input W from e some room-samples room-taps start most window (omega (arith, length-drop from input))
+            ap (backFrom (r .length) W) a ∙ newest-of-few f (r .taps) (r .length) (r .samples) input W from e some room-samples room-taps start most line (omega (arith, length-drop from input))
         go false t =
             let h = ltb-false m (r .length) t in
             let a : length input - 1 ≡ from + length (drop from input) - 1 = omega (arith, length-drop from input) in
-            ap (backFrom (r .length) input) a ∙ newest-of-many f (r .taps) (r .length) (r .samples) input W from e some room-samples room-taps start most window (omega arith)
+            ap (backFrom (r .length) input) a ∙ newest-of-many f (r .taps) (r .length) (r .samples) input W from e some room-samples room-taps start most line (omega arith)
 
     pub after-long : {samples : List Float} → samples ≡ newestOf (r .length) W input m ++ drop (r .length) (r .samples)
         → _≡_ {A = TapsRecord} (record { taps = r .taps; samples = samples; length = r .length; held = r .held; window = r .window }) (after (fir capacity f) r (drop from input))
@@ -116,7 +116,7 @@ module _ (capacity : ℕ) (f : Format) (r : TapsRecord) (input : List Float) (fr
           go false t =
               let h = ltb-false m (r .length) t in
               let a : m - e ≡ length (drop from input) - e = omega (arith, length-drop from input) in
-              ap (sumsFrom f (r .taps) (r .length) input (from + e)) a ∙ second-stretch f (r .taps) (r .length) (r .samples) input W from e some room-samples room-taps start most window (omega arith)
+              ap (sumsFrom f (r .taps) (r .length) input (from + e)) a ∙ second-stretch f (r .taps) (r .length) (r .samples) input W from e some room-samples room-taps start most line (omega arith)
 
       length-S₁ : length S₁ ≡ e
       unfolding S₁
@@ -128,7 +128,7 @@ module _ (capacity : ℕ) (f : Format) (r : TapsRecord) (input : List Float) (fr
 
       both-S : S₁ ++ S₂ ≡ values f (r .taps) (r .length) (r .samples) (drop from input)
       unfolding S₁
-      both-S = both-stretches f (r .taps) (r .length) (r .samples) input W from e some room-samples room-taps start most window S₂ second-values
+      both-S = both-stretches f (r .taps) (r .length) (r .samples) input W from e some room-samples room-taps start most line S₂ second-values
 
       as-written : spliced output₀ from (values f (r .taps) (r .length) (r .samples) (drop from input)) ≡ take from output₀ ++ written (answers (fir capacity f) r (drop from input)) (drop from output₀)
       unfolding spliced

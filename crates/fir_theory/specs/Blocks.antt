@@ -32,9 +32,9 @@ unfoldable pub cloudsFrom : ℕ → ℕ → List Float → ℕ
 cloudsFrom n age [] = 0
 cloudsFrom n age (x ∷ xs) = cond (ltb (ageAfter n age x) n) 1 0 + cloudsFrom n (ageAfter n age x) xs
 
--- the newest n samples after m more, which end the input: a window holds the n before them and, where they are fewer than n, these too
+-- the newest n samples after m more, which end the input: a delay line holds the n before them and, where they are fewer than n, these too
 unfoldable pub newestOf : ℕ → List Float → List Float → ℕ → List Float
-newestOf n window input m = cond (ltb m n) (backFrom n window (n + m - 1)) (backFrom n input (length input - 1))
+newestOf n line input m = cond (ltb m n) (backFrom n line (n + m - 1)) (backFrom n input (length input - 1))
 
 -- an accepted block by its parts
 abbrev pub ranBlock : ℕ → TapsRecord → List Float → Block TapsRecord

@@ -4,7 +4,8 @@ use mathlib.Core.Bool.{true}
 use borrow.Author.Tests.{not-true, not-false}
 use Rattle.design_cascade.specs.View.{designView}
 use Rattle.c_layout.specs.Layout.{cascadePlaces}
-use Rattle.c_calls.proofs.Laws.{numbers-are, counts-are, design-unfit, design-refused, design-accepted}
+use Rattle.c_calls.proofs.Laws.{numbers-are, counts-are}
+use Rattle.c_designs.proofs.Laws.{design-unfit, design-refused, design-accepted}
 use borrow.Author.Needs.{needs}
 use Rattle.c_designs.proofs.hand_out.Statement.{statement}
 use Rattle.c_designs.proofs.hand_out.Tie as tie

@@ -9,8 +9,8 @@ use lib.ListN.{length}
 use Rattle.limits.specs.Limits.{maxTaps}
 use Rattle.fir.specs.View.{madeView}
 use Rattle.c_calls.specs.Kinds.{tapsCounts}
-use Rattle.c_calls.specs.Calls.{tapsPlaces}
-use Rattle.c_calls.proofs.Laws.{taps-lengths, made-unfit, made-refused, made-accepted}
+use Rattle.c_designs.specs.Designs.{tapsPlaces}
+use Rattle.c_designs.proofs.Laws.{taps-lengths, made-unfit, made-refused, made-accepted}
 use Rattle.lists.proofs.Copies.{copied-same}
 use borrow.Author.Needs.{needs}
 use Rattle.c_designs.proofs.hand_out_taps.Statement.{statement}

@@ -1,7 +1,7 @@
 -- `c_designs::has_tap_places` meets its contract.
 use borrow.Author.Tests.{eq-eqb, ne-eqb}
-use Rattle.c_calls.specs.Calls.{tapsPlaces}
-use Rattle.c_calls.proofs.Laws.{taps-last}
+use Rattle.c_designs.specs.Designs.{tapsPlaces}
+use Rattle.c_designs.proofs.Laws.{taps-last}
 use Rattle.c_designs.proofs.has_tap_places.Statement.{statement}
 use Rattle.c_designs.proofs.has_tap_places.Tie as tie
 

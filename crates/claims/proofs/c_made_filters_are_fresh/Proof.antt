@@ -36,7 +36,8 @@ use Rattle.design_cascade.specs.BandPass.{bpSections, bpCascade, butterworthBp}
 use Rattle.design_cascade.proofs.Fresh.{butterworth-lp-fresh, butterworth-hp-fresh, chebyshev1-fresh, chebyshev2-fresh, bandpass-fresh}
 use Rattle.c_layout.specs.Layout.{cascadeAt, cascadePlaces, cascadeFits, cascadeNumbers, cascadeCounts}
 use Rattle.c_calls.specs.Kinds.{tapsAt, tapsCounts, tapsFit}
-use Rattle.c_calls.specs.Calls.{Stored, designCall, notStored, TapsStored, tapsPlaces, tapsUnchanged, madeCall, firCall, windowOf}
+use Rattle.c_calls.specs.Calls.{Stored, notStored}
+use Rattle.c_designs.specs.Designs.{designCall, TapsStored, tapsPlaces, tapsUnchanged, madeCall, firCall, windowOf}
 use Rattle.c_calls.proofs.Back.{cascade-back, taps-back}
 use Rattle.claims.specs.Fresh.{CascadeMade, TapsMade}
 use Rattle.claims.proofs.c_made_filters_are_fresh.Statement.{statement}

@@ -1,6 +1,6 @@
 -- `fir_block::keep_newest` meets its contract.
 use native.Mathlib.Omega.{arith}
-use Rattle.fir_theory.proofs.Window.{newest-window, newest-input}
+use Rattle.fir_theory.proofs.Line.{newest-line, newest-input}
 use borrow.Author.Needs.{needs}
 use Rattle.fir_block.proofs.keep_newest.Statement.{statement}
 use Rattle.fir_block.proofs.keep_newest.Tie as tie
@@ -18,7 +18,7 @@ copy-back-requires-2 : tie.Need-copy-back-requires-2
 copy-back-requires-2 c κs = let t = c .before in let p = t .before .before .before .before .pre in (omega (arith, p .3, t .if1 .left), omega (arith, p .0, p .3, t .if1 .left), p .1)
 
 returns : tie.Need-returns
-returns c = let t = c .before .before .before .before in newest-window _ _ _ _ _ (t .if1 .taken) (c .before .before .copy-back .ensures)
+returns c = let t = c .before .before .before .before in newest-line _ _ _ _ _ (t .if1 .taken) (c .before .before .copy-back .ensures)
 
 returns-2 : tie.Need-returns-2
 returns-2 c = let t = c .before .before .before .before in newest-input _ _ _ _ _ (t .if1 .left) (c .before .before .copy-back2 .ensures)

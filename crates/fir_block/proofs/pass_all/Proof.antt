@@ -19,8 +19,8 @@ start j = j .before .before .before .before .before
 few-is : (j : tie.Joined1) → j .if1 .few ≡ min (length (start j .args .input .now) - start j .args .from) (start j .args .n)
 few-is j = ⊎-elim (λ w. omega arith) (λ w. omega arith) (j .if1 .came)
 
-window-of-requires : tie.Need-window-of-requires
-window-of-requires c κs = let j = c .before in
+line-of-requires : tie.Need-line-of-requires
+line-of-requires c κs = let j = c .before in
     let p = start j .pre in
     (p .0, p .1, omega (arith, p .1, p .3), omega (arith, few-is j), omega (arith, few-is j, p .4))
 
@@ -37,7 +37,7 @@ returns : tie.Need-returns
 returns c = λ window g. let j = c .before .before .before .before .before .before .before .before .before .before .before .before .before .before .before .before .before .before .before .before in
     let s = start j in
     let p = s .pre in
-    let w = c .before .before .before .before .before .before .before .before .before .before .before .before .before .before .before .before .before .before .window-of .ensures in
+    let w = c .before .before .before .before .before .before .before .before .before .before .before .before .before .before .before .before .before .before .line-of .ensures in
     let r = lentTaps (s .args .taps .now) (s .args .samples .now) (s .args .n) (s .args .n) window in (
       count-long maxTaps binary64 r _ _ _ _ g refl (p .2) (p .3) (p .4) refl (few-is j) (c .before .before .before .before .before .before .finite-run .ensures) (c .before .before .before .before .before .count-clouded .ensures),
       after-long maxTaps binary64 r _ _ _ _ g refl (p .2) (p .3) (p .4) refl (few-is j) _ (w .1) (c .before .before .keep-newest .ensures),
@@ -49,7 +49,7 @@ pass-all-spec =
     tie.close
     (tie.spec
     (λ c. search needs)
-    window-of-requires
+    line-of-requires
     (λ c. search needs)
     (λ c κs. search needs)
     add-convolve

@@ -1,6 +1,6 @@
 -- `capi::design::pulse_design_fir_lp` meets its contract.
 use borrow.Author.Tests.{lt-leb, le-leb}
-use Rattle.c_calls.specs.Calls.{firCall}
+use Rattle.c_designs.specs.Designs.{firCall}
 use borrow.Author.Needs.{needs}
 use Rattle.capi.proofs.design.pulse_design_fir_lp.Statement.{statement}
 use Rattle.capi.proofs.design.pulse_design_fir_lp.Tie as tie

@@ -1,4 +1,4 @@
--- A long block from a full record: what the window holds, the two stretches of outputs, and the newest samples.
+-- A long block from a full record: what the delay line holds, the two stretches of outputs, and the newest samples.
 use mathlib.Core.Path.{_≡_, refl, sym, ap, ap₂, _∙_, subst}
 use mathlib.Core.List.{List, [], _∷_, _++_, reverseAux, append-assoc}
 use Prim.Native.Nat.{ℕ, zero, suc, _+_, _-_, _<_, _≤_}
@@ -34,10 +34,10 @@ values-append f ts n L [] b = refl
 values-append f ts n L (x ∷ a) b = ap₂ _∷_ refl (values-append f ts n (x ∷ L) a b)
 
 -- what the two copies make of a list of numbers
-pub window-is : (s input W₀ W₁ W : List Float) (n from m : ℕ) → from + m ≤ length input → W₁ ≡ backFrom n s (n - 1) ++ drop n W₀ → W ≡ spliced W₁ n (take m (drop from input))
+pub line-is : (s input W₀ W₁ W : List Float) (n from m : ℕ) → from + m ≤ length input → W₁ ≡ backFrom n s (n - 1) ++ drop n W₀ → W ≡ spliced W₁ n (take m (drop from input))
     → take (n + m) W ≡ backFrom n s (n - 1) ++ take m (drop from input)
 unfolding spliced
-window-is s input W₀ W₁ W n from m h e g =
+line-is s input W₀ W₁ W n from m h e g =
     let A = backFrom n s (n - 1) in
     let ys = take m (drop from input) in
     let la : length A ≡ n = back-length n s (n - 1) in
@@ -46,19 +46,19 @@ window-is s input W₀ W₁ W n from m h e g =
     let w : W ≡ (A ++ ys) ++ drop (n + length ys) W₁ = g ∙ ap (λ (l : List Float). l ++ (ys ++ drop (n + length ys) W₁)) front ∙ sym (append-assoc A ys (drop (n + length ys) W₁)) in
     ap (take (n + m)) w ∙ take-at (A ++ ys) (drop (n + length ys) W₁) (n + m) (length-append A ys ∙ ap₂ _+_ la ly)
 
--- the window W: the n held samples, oldest first, and the first e of the samples xs, which stand in the input from a place on
+-- the delay line W: the n held samples, oldest first, and the first e of the samples xs, which stand in the input from a place on
 module _ (f : Format) (ts : List Float) (n : ℕ) (s input W : List Float) (from e : ℕ) (some : 1 ≤ n) (held : n ≤ length s) (enough : n ≤ length ts)
-    (start : from ≤ length input) (most : e ≤ length (drop from input)) (window : take (n + e) W ≡ backFrom n s (n - 1) ++ take e (drop from input)) where
-  at-window : (k : ℕ) → k < n + e → getD W k nan ≡ getD (backFrom n s (n - 1) ++ take e (drop from input)) k nan
-  at-window k h = sym (getD-take (n + e) W k nan h) ∙ ap (λ (l : List Float). getD l k nan) window
+    (start : from ≤ length input) (most : e ≤ length (drop from input)) (line : take (n + e) W ≡ backFrom n s (n - 1) ++ take e (drop from input)) where
+  at-line : (k : ℕ) → k < n + e → getD W k nan ≡ getD (backFrom n s (n - 1) ++ take e (drop from input)) k nan
+  at-line k h = sym (getD-take (n + e) W k nan h) ∙ ap (λ (l : List Float). getD l k nan) line
 
   old : Past W (n - 1) s n
   old i h =
-      at-window (n - 1 - i) (omega arith) ∙ List·getD-append (backFrom n s (n - 1)) (take e (drop from input)) nan (n - 1 - i) (omega (arith, back-length n s (n - 1)))
+      at-line (n - 1 - i) (omega arith) ∙ List·getD-append (backFrom n s (n - 1)) (take e (drop from input)) nan (n - 1 - i) (omega (arith, back-length n s (n - 1)))
       ∙ back-at n s (n - 1) (n - 1 - i) (omega arith) ∙ ap (λ (z : ℕ). getD s z nan) (omega arith)
 
   new : (j : ℕ) → j < e → getD W (n + j) nan ≡ getD (take e (drop from input)) j nan
-  new j h = at-window (n + j) (omega arith) ∙ ap (λ (z : ℕ). getD (backFrom n s (n - 1) ++ take e (drop from input)) (z + j) nan) (sym (back-length n s (n - 1))) ∙ getD-append-add (backFrom n s (n - 1)) (take e (drop from input)) j nan
+  new j h = at-line (n + j) (omega arith) ∙ ap (λ (z : ℕ). getD (backFrom n s (n - 1) ++ take e (drop from input)) (z + j) nan) (sym (back-length n s (n - 1))) ∙ getD-append-add (backFrom n s (n - 1)) (take e (drop from input)) j nan
 
   few : length (take e (drop from input)) ≡ e
   few = length-take-le e (drop from input) most
@@ -124,9 +124,9 @@ module _ (f : Format) (ts : List Float) (n : ℕ) (s input W : List Float) (from
       ap₂ _++_ first-stretch g ∙ sym (values-append f ts n s (take e (drop from input)) (drop e (drop from input))) ∙ ap (values f ts n s) (take-append-drop e (drop from input))
 
 -- ---- which of the two the newest are copied from
-pub newest-window : (n : ℕ) (W input : List Float) (m : ℕ) {l : List Float} (r : List Float) → m < n → l ≡ backFrom n W (n + m - 1) ++ r → l ≡ newestOf n W input m ++ r
+pub newest-line : (n : ℕ) (W input : List Float) (m : ℕ) {l : List Float} (r : List Float) → m < n → l ≡ backFrom n W (n + m - 1) ++ r → l ≡ newestOf n W input m ++ r
 unfolding newestOf
-newest-window n W input m r h e = rw (lt-ltb m n h) e
+newest-line n W input m r h e = rw (lt-ltb m n h) e
 
 pub newest-input : (n : ℕ) (W input : List Float) (m : ℕ) {l : List Float} (r : List Float) → n ≤ m → l ≡ backFrom n input (length input - 1) ++ r → l ≡ newestOf n W input m ++ r
 unfolding newestOf

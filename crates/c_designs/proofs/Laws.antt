@@ -1,0 +1,59 @@
+-- What a design call shows where it returns.
+use mathlib.Core.Path.{_≡_}
+use mathlib.Core.Bool.{true, false, _&&_}
+use mathlib.Core.List.{List}
+use Prim.Native.Nat.{ℕ}
+use lib.Dec.{eqb}
+use lib.ListN.{length}
+use lib.Ieee.{Float}
+use borrow.Author.Tests.{eq-eqb, ne-eqb, eqb-true}
+use Rattle.limits.specs.Limits.{maxTaps}
+use Rattle.runs.specs.Refusals.{Accepted, BadCall}
+use Rattle.fir_theory.specs.Fir.{Made}
+use Rattle.design_cascade.specs.Design.{DesignRecord}
+use Rattle.c_layout.specs.Layout.{cascadePlaces, cascadeNumbers, cascadeCounts}
+use Rattle.c_layout.proofs.Places.{both}
+use Rattle.c_calls.specs.Kinds.{tapsCounts}
+use Rattle.c_calls.specs.Calls.{Stored, notStored}
+use Rattle.c_designs.specs.Designs.{TapsStored, designCall, tapsUnchanged, tapsPlaces, madeCall}
+
+-- slices of a tap record
+pub taps-last : (ts ss : List Float) (cs : List ℕ) → length ts ≡ maxTaps → length ss ≡ maxTaps → eqb (length cs) 3 ≡ tapsPlaces ts ss cs
+unfolding tapsPlaces
+taps-last ts ss cs h k = rw (eq-eqb (length ts) maxTaps h, eq-eqb (length ss) maxTaps k)
+
+pub taps-lengths : (ts ss : List Float) (cs : List ℕ) → tapsPlaces ts ss cs ≡ true → (length ts ≡ maxTaps) × (length ss ≡ maxTaps) × (length cs ≡ 3)
+unfolding tapsPlaces
+taps-lengths ts ss cs h =
+    let p = both (eqb (length ts) maxTaps) (eqb (length ss) maxTaps && eqb (length cs) 3) h in
+    let q = both (eqb (length ss) maxTaps) (eqb (length cs) 3) (p .1) in
+    (eqb-true (length ts) maxTaps (p .0), eqb-true (length ss) maxTaps (q .0), eqb-true (length cs) 3 (q .1))
+
+-- ---- designs
+module _ (d : DesignRecord) (ns : List Float) (cs : List ℕ) where
+  pub design-unfit : cascadePlaces ns cs ≡ false → notStored ns cs BadCall ≡ designCall d ns cs
+  unfolding designCall
+  design-unfit h = rw h
+
+  pub design-refused : cascadePlaces ns cs ≡ true → (d .refusal ≡ 0 → ⊥) → notStored ns cs (d .refusal) ≡ designCall d ns cs
+  unfolding designCall
+  design-refused h k = rw (h, ne-eqb (d .refusal) 0 k)
+
+  pub design-accepted : {ns′ : List Float} {cs′ : List ℕ} → cascadePlaces ns cs ≡ true → d .refusal ≡ 0 → ns′ ≡ cascadeNumbers (d .cascade) → cs′ ≡ cascadeCounts (d .cascade)
+      → _≡_ {A = Stored} (record { refusal = Accepted; numbers = ns′; counts = cs′ }) (designCall d ns cs)
+  unfolding designCall
+  design-accepted h k en ec = rw (h, eq-eqb (d .refusal) 0 k, en, ec)
+
+module _ (m : Made) (ts ss : List Float) (cs : List ℕ) where
+  pub made-unfit : tapsPlaces ts ss cs ≡ false → tapsUnchanged ts ss cs BadCall ≡ madeCall ts ss cs m
+  unfolding madeCall
+  made-unfit h = rw h
+
+  pub made-refused : tapsPlaces ts ss cs ≡ true → (m .refusal ≡ 0 → ⊥) → tapsUnchanged ts ss cs (m .refusal) ≡ madeCall ts ss cs m
+  unfolding madeCall
+  made-refused h k = rw (h, ne-eqb (m .refusal) 0 k)
+
+  pub made-accepted : {ts′ ss′ : List Float} {cs′ : List ℕ} → tapsPlaces ts ss cs ≡ true → m .refusal ≡ 0 → ts′ ≡ m .filter .taps → ss′ ≡ m .filter .samples → cs′ ≡ tapsCounts (m .filter)
+      → _≡_ {A = TapsStored} (record { refusal = Accepted; taps = ts′; samples = ss′; counts = cs′ }) (madeCall ts ss cs m)
+  unfolding madeCall
+  made-accepted h k et es ec = rw (h, eq-eqb (m .refusal) 0 k, et, es, ec)

@@ -1,0 +1,2 @@
+-- Laws of the design calls.
+pub mod Laws
