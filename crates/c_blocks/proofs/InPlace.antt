@@ -57,11 +57,15 @@ module _ (F : Filter) (keeps : (s : F .State) (x : Float) → F .check s ≡ tru
       let ly : length ys ≡ n = ap (λ (b : Block (F .State)). length (b .output)) e ∙ block-length F s part part ∙ lt in
       let lf : length first ≡ to = simp (length-append, length-take) (omega (arith, ly, p .running .room)) in
       let from-old = e ∙ ap (λ (l : List Float). block F s (take n l) part) (p .rest) in
-      let same : first ++ behind ≡ take i samples ++ (ys ++ drop n (drop i samples)) = rw (drop-drop n i samples, end) (append-assoc (take i samples) ys behind) in
+      let same : first ++ behind ≡ take i samples ++ (ys ++ drop n (drop i samples)) = rw (
+        drop-drop n i samples,
+        end,
+      ) (append-assoc (take i samples) ys behind) in
       subst (λ (l : List Float). InPlace F s₀ old s′ l (clouded + c) to) same
       (record {
         running = rw end at (run-part F keeps s₀ old old n (omega arith) from-old (p .running));
-        rest = drop-at first behind to lf ∙ ap (λ (z : ℕ). drop z samples) (sym end) ∙ sym (drop-drop n i samples) ∙ ap (drop n) (p .rest) ∙ drop-drop n i old ∙ ap (λ (z : ℕ). drop z old) end;
+        rest = drop-at first behind to lf ∙ ap (λ (z : ℕ). drop z samples) (sym end) ∙ sym (drop-drop n i samples) ∙ ap (drop n) (p .rest) ∙ drop-drop n i old
+            ∙ ap (λ (z : ℕ). drop z old) end;
       })
 
   pub place-done : {s : F .State} {samples : List Float} {clouded i : ℕ} → length old ≤ i → F .check s₀ ≡ true → InPlace F s₀ old s samples clouded i
@@ -84,9 +88,16 @@ module _ (K : Kind) (numbers : List Float) (counts : List ℕ) (input output : L
   -- an accepted block
   call-is : length tally ≡ 1 → K .fit numbers counts ≡ true → K .filter .check s ≡ true → length input ≤ length output
       → blockCall K numbers counts input output tally
-      ≡ record { refusal = Accepted; numbers = K .numbers (after (K .filter) s input); counts = K .counts (after (K .filter) s input); answers = written ys output; clouded = cloudedIn ys ∷ [] }
+      ≡ record {
+        refusal = Accepted;
+        numbers = K .numbers (after (K .filter) s input);
+        counts = K .counts (after (K .filter) s input);
+        answers = written ys output;
+        clouded = cloudedIn ys ∷ [];
+      }
   call-is single fit good room =
-      sym (block-accepted K numbers counts input output tally single (lend-block K numbers counts fit refl input output (sym (block-is (K .filter) s input output good room))) refl refl refl refl)
+      sym (block-accepted K numbers counts input output tally single
+      (lend-block K numbers counts fit refl input output (sym (block-is (K .filter) s input output good room))) refl refl refl refl)
 
 module _ (K : Kind) (B : ReadBack K) where
   abbrev F : Filter
@@ -124,7 +135,8 @@ module _ (K : Kind) (B : ReadBack K) where
 
     -- a part up to `to`
     pub parts-turn : {numbers numbers′ buffer ys : List Float} {counts counts′ tally tally′ : List ℕ} {r total i : ℕ} (to : ℕ) → i ≤ to → to ≤ length old
-        → record { refusal = r; numbers = numbers′; counts = counts′; answers = ys; clouded = tally′ } ≡ blockInPlaceCall K numbers counts (take (to - i) (drop i buffer)) tally
+        → record { refusal = r; numbers = numbers′; counts = counts′; answers = ys; clouded = tally′ }
+        ≡ blockInPlaceCall K numbers counts (take (to - i) (drop i buffer)) tally
         → Parts numbers counts buffer tally total i
         → Parts numbers′ counts′ (take i buffer ++ (ys ++ drop (to - i) (drop i buffer))) tally′ (total + getD tally′ 0 0) to
     unfolding blockInPlaceCall
@@ -137,22 +149,26 @@ module _ (K : Kind) (B : ReadBack K) where
         let c = cloudedIn (answers F s part) in
         let z = e ∙ call-is K numbers counts part part tally (q .single) (q .fit) (q .good) (omega arith) in
         let et : getD tally′ 0 0 ≡ c = ap (λ (k : Call). getD (k .clouded) 0 0) z in
-        let ran = ap (λ (l : List Float). record { refusal = 0; clouded = c; state = s′; output = l }) (ap (λ (k : Call). k .answers) z) ∙ sym (block-is F s part part (q .good) (omega arith)) in
+        let ran = ap (λ (l : List Float). record { refusal = 0; clouded = c; state = s′; output = l }) (ap (λ (k : Call). k .answers) z)
+        ∙ sym (block-is F s part part (q .good) (omega arith)) in
         let left = ready-of s′ (good-after K B s part (q .good) (B .good-read numbers counts (q .fit))) (check-after F (B .keeps) s part (q .good)) z in
         let turned = place-turn F (B .keeps) s₀ old to low high ran (p .place) in
         record {
           start = p .start;
           ready = left .1;
-          place = rw et (subst (λ (t : F .State). InPlace F s₀ old t (take i buffer ++ (ys ++ drop (to - i) (drop i buffer))) (total + c) to) (sym (left .0)) turned);
+          place = rw et (subst (λ (t : F .State). InPlace F s₀ old t (take i buffer ++ (ys ++ drop (to - i) (drop i buffer))) (total + c) to) (sym (left .0))
+              turned);
         }
 
-    pub parts-done : {numbers buffer : List Float} {counts tally tally′ : List ℕ} {total i : ℕ} → length old ≤ i → tally′ ≡ total ∷ [] → Parts numbers counts buffer tally total i
+    pub parts-done : {numbers buffer : List Float} {counts tally tally′ : List ℕ} {total i : ℕ} → length old ≤ i → tally′ ≡ total ∷ []
+        → Parts numbers counts buffer tally total i
         → record { refusal = 0; numbers = numbers; counts = counts; answers = buffer; clouded = tally′ } ≡ blockInPlaceCall K numbers₀ counts₀ old tally₀
     unfolding blockInPlaceCall
     parts-done h et p =
         let q = p .start in
         let done = place-done F (B .keeps) (K .read numbers₀ counts₀) old h (q .good) (p .place) in
-        block-accepted K numbers₀ counts₀ old old tally₀ (q .single) (lend-block K numbers₀ counts₀ (q .fit) refl old old done) refl (p .ready .held) (p .ready .held-counts) et
+        block-accepted K numbers₀ counts₀ old old tally₀ (q .single) (lend-block K numbers₀ counts₀ (q .fit) refl old old done) refl (p .ready .held)
+        (p .ready .held-counts) et
 
   -- ---- the empty block before them
   module _ (numbers : List Float) (counts : List ℕ) (old : List Float) (tally : List ℕ) {r : ℕ} {numbers′ buffer : List Float} {counts′ tally′ : List ℕ}
@@ -161,7 +177,8 @@ module _ (K : Kind) (B : ReadBack K) where
     s₀ = K .read numbers counts
 
     -- refused, and so is the block in place
-    pub empty-refused : (r ≡ 0 → ⊥) → record { refusal = r; numbers = numbers′; counts = counts′; answers = buffer; clouded = tally′ } ≡ blockInPlaceCall K numbers counts old tally
+    pub empty-refused : (r ≡ 0 → ⊥) → record { refusal = r; numbers = numbers′; counts = counts′; answers = buffer; clouded = tally′ }
+        ≡ blockInPlaceCall K numbers counts old tally
     unfolding blockInPlaceCall
     empty-refused h = go (eqb (length tally) 1) (K .fit numbers counts) (F .check s₀) refl refl refl
       where
@@ -176,7 +193,8 @@ module _ (K : Kind) (B : ReadBack K) where
             let n = B .numbered .0 in
             e ∙ sym (Laws.block-refused K numbers counts [] old tally z (lend-block K numbers counts q refl [] old (block-refused F s₀ [] old t)) n)
             ∙ Laws.block-refused K numbers counts old old tally z (lend-block K numbers counts q refl old old (block-refused F s₀ old old t)) n
-        go true true true p q t = absurd (h (ap (λ (z : Call). z .refusal) (e ∙ call-is K numbers counts [] old tally (eqb-true (length tally) 1 p) q t (omega arith))))
+        go true true true p q t = absurd (h (ap (λ (z : Call). z .refusal)
+            (e ∙ call-is K numbers counts [] old tally (eqb-true (length tally) 1 p) q t (omega arith))))
 
     -- accepted: the buffer is as it was, and what follows is the block in place
     pub record Follows : Type 0 where
@@ -195,7 +213,8 @@ module _ (K : Kind) (B : ReadBack K) where
         go false b c p q t = no (λ z. omega (arith, z)) (block-not-single K numbers counts [] old tally (eqb-false (length tally) 1 p))
         go true false c p q t = no (λ z. omega (arith, z)) (block-unfit K numbers counts [] old tally (eqb-true (length tally) 1 p) q)
         go true true false p q t =
-            no (B .numbered .0) (Laws.block-refused K numbers counts [] old tally (eqb-true (length tally) 1 p) (lend-block K numbers counts q refl [] old (block-refused F s₀ [] old t)) (B .numbered .0))
+            no (B .numbered .0) (Laws.block-refused K numbers counts [] old tally (eqb-true (length tally) 1 p)
+            (lend-block K numbers counts q refl [] old (block-refused F s₀ [] old t)) (B .numbered .0))
         go true true true p q t =
             let single = eqb-true (length tally) 1 p in
             let z = e ∙ call-is K numbers counts [] old tally single q t (omega arith) in

@@ -1,13 +1,12 @@
 -- Both kinds of record are read back from slices as they were written into them.
-use mathlib.Core.Path.{_≡_, refl, sym, ap, _∙_}
-use mathlib.Core.Bool.{Bool, true, false, _&&_}
-use mathlib.Core.List.{List, [], _∷_, map}
+use mathlib.Core.Path.{_≡_, refl, ap, _∙_}
+use mathlib.Core.Bool.{Bool, true, false}
+use mathlib.Core.List.{List, [], _∷_}
 use Prim.Native.Nat.{ℕ, zero, suc}
 use native.Mathlib.Omega.{arith}
 use lib.Dec.{eqb}
 use lib.ListN.{length, length-map, length-replicate}
 use lib.Ieee.{Float, Format, binary64}
-use borrow.Author.Tests.{eq-eqb}
 use Rattle.limits.specs.Zero.{plusZero}
 use Rattle.cascade_theory.specs.Section.{SectionRecord, clearedSection, sectionOut}
 use Rattle.cascade_theory.specs.Parts.{sectionsNext}
@@ -31,7 +30,8 @@ next-length f zero ss x = refl
 next-length f (suc n) [] x = refl
 next-length f (suc n) (s ∷ ss) x = ap suc (next-length f n ss (sectionOut f s x))
 
-pub cascade-back : (c : CascadeRecord) → length (c .sections) ≡ 4 → (cascadeAt (cascadeNumbers c) (cascadeCounts c) ≡ c) × (cascadeFits (cascadeNumbers c) (cascadeCounts c) ≡ true)
+pub cascade-back : (c : CascadeRecord) → length (c .sections) ≡ 4 → (cascadeAt (cascadeNumbers c) (cascadeCounts c) ≡ c)
+    × (cascadeFits (cascadeNumbers c) (cascadeCounts c) ≡ true)
 unfolding cascadeAt cascadeNumbers sectionsNumbers cascadeCounts cascadePlaces cascadeFits
 cascade-back c h = go (c .sections) (c .hasFirst) (c .clouded) h
   where
@@ -39,7 +39,8 @@ cascade-back c h = go (c .sections) (c .hasFirst) (c .clouded) h
     with ss a b = record { sections = ss; count = c .count; first = c .first; hasFirst = a; clouded = b }
 
     go : (ss : List SectionRecord) (a b : Bool) → length ss ≡ 4
-        → (cascadeAt (cascadeNumbers (with ss a b)) (cascadeCounts (with ss a b)) ≡ with ss a b) × (cascadeFits (cascadeNumbers (with ss a b)) (cascadeCounts (with ss a b)) ≡ true)
+        → (cascadeAt (cascadeNumbers (with ss a b)) (cascadeCounts (with ss a b)) ≡ with ss a b)
+        × (cascadeFits (cascadeNumbers (with ss a b)) (cascadeCounts (with ss a b)) ≡ true)
     go [] a b e = absurd (omega (arith, e))
     go (s₀ ∷ []) a b e = absurd (omega (arith, e))
     go (s₀ ∷ s₁ ∷ []) a b e = absurd (omega (arith, e))
@@ -69,7 +70,8 @@ pub taps-fit : (taps samples : List Float) (counts : List ℕ) → tapsFit taps 
 unfolding tapsFit
 taps-fit taps samples counts h = both (eqb (length counts) 3) _ h .1
 
-pub taps-back : (taps : List Float) (r : TapsRecord) → r .taps ≡ taps → fits maxTaps r ≡ true → (tapsAt taps (r .samples) (tapsCounts r) ≡ r) × (tapsFit taps (r .samples) (tapsCounts r) ≡ true)
+pub taps-back : (taps : List Float) (r : TapsRecord) → r .taps ≡ taps → fits maxTaps r ≡ true → (tapsAt taps (r .samples) (tapsCounts r) ≡ r)
+    × (tapsFit taps (r .samples) (tapsCounts r) ≡ true)
 unfolding tapsAt tapsCounts tapsFit
 taps-back taps r e h = (rw (← e), rw (← e) h)
 

@@ -11,7 +11,7 @@ use Rattle.runs.specs.Refusals.{Accepted, BadCall}
 use Rattle.runs.specs.Runs.{Filter, Answer, Step, Reset, Block, numberOf, isClouded, refusalOf, step, reset, block}
 use Rattle.runs.specs.Lent.{lentStep, lentReset, lentBlock}
 use Rattle.runs.proofs.Lent.{lent-step, lent-reset, lent-block, unfit-step, unfit-reset, unfit-block, step-keeps, reset-keeps, block-keeps}
-use Rattle.fir_theory.specs.Fir.{TapsRecord, Made, fir}
+use Rattle.fir_theory.specs.Fir.{TapsRecord, fir}
 use Rattle.limits.specs.Limits.{maxTaps}
 use Rattle.fir_theory.specs.Lent.{lentTaps, fits}
 use Rattle.cascade_theory.specs.Cascade.{CascadeRecord, blankCascade}
@@ -26,7 +26,8 @@ module _ (ns : List Float) (cs : List ℕ) where
   pub read-is : {s : CascadeRecord} → cascadeFits ns cs ≡ true → s ≡ cond (cascadePlaces ns cs) (cascadeAt ns cs) blankCascade → s ≡ cascadeAt ns cs
   read-is h e = e ∙ cond-true (cascadePlaces ns cs) (cascadeAt ns cs) blankCascade (fits-places ns cs h)
 
-  pub numbers-are : (c : CascadeRecord) {l : List Float} → cascadePlaces ns cs ≡ true → l ≡ cond (cascadePlaces ns cs) (cascadeNumbers c) ns → l ≡ cascadeNumbers c
+  pub numbers-are : (c : CascadeRecord) {l : List Float} → cascadePlaces ns cs ≡ true → l ≡ cond (cascadePlaces ns cs) (cascadeNumbers c) ns → l
+      ≡ cascadeNumbers c
   numbers-are c h e = e ∙ cond-true (cascadePlaces ns cs) (cascadeNumbers c) ns h
 
   pub counts-are : (c : CascadeRecord) {l : List ℕ} → cascadePlaces ns cs ≡ true → l ≡ cond (cascadePlaces ns cs) (cascadeCounts c) cs → l ≡ cascadeCounts c
@@ -35,7 +36,8 @@ module _ (ns : List Float) (cs : List ℕ) where
 -- ---- the tests of lengths
 
 pub single-lengths : (answer : List Float) (tally : List ℕ) → (eqb (length answer) 1 && eqb (length tally) 1) ≡ true → (length answer ≡ 1) × (length tally ≡ 1)
-single-lengths answer tally h = let p = both (eqb (length answer) 1) (eqb (length tally) 1) h in (eqb-true (length answer) 1 (p .0), eqb-true (length tally) 1 (p .1))
+single-lengths answer tally h = let p = both (eqb (length answer) 1) (eqb (length tally) 1) h in
+    (eqb-true (length answer) 1 (p .0), eqb-true (length tally) 1 (p .1))
 
 module _ (K : Kind) (ns : List Float) (cs : List ℕ) where
   -- ---- slices that fit
@@ -48,7 +50,8 @@ module _ (K : Kind) (ns : List Float) (cs : List ℕ) where
 
     pub lend-block : (input output : List Float) {r : Block (K .filter .State)} → r ≡ block (K .filter) s input output
         → r ≡ lentBlock (K .filter) (fitting K ns cs) (recordOf K ns cs) input output
-    lend-block input output p = p ∙ ap (λ (z : K .filter .State). block (K .filter) z input output) e ∙ sym (lent-block (K .filter) (fitting K ns cs) (recordOf K ns cs) input output fit)
+    lend-block input output p = p ∙ ap (λ (z : K .filter .State). block (K .filter) z input output) e
+        ∙ sym (lent-block (K .filter) (fitting K ns cs) (recordOf K ns cs) input output fit)
 
   -- ---- a step
   module _ (x : Float) (answer : List Float) (tally : List ℕ) where
@@ -56,18 +59,22 @@ module _ (K : Kind) (ns : List Float) (cs : List ℕ) where
     unfolding stepCall
     step-not-single h = rw h
 
-    pub step-unfit : (eqb (length answer) 1 && eqb (length tally) 1) ≡ true → K .fit ns cs ≡ false → unchanged K ns cs answer tally BadCall ≡ stepCall K ns cs x answer tally
+    pub step-unfit : (eqb (length answer) 1 && eqb (length tally) 1) ≡ true → K .fit ns cs ≡ false → unchanged K ns cs answer tally BadCall
+        ≡ stepCall K ns cs x answer tally
     unfolding stepCall
     step-unfit h k = rw (h, unfit-step (K .filter) (fitting K ns cs) (recordOf K ns cs) x k)
 
     pub step-refused : {a : Answer} {s : K .filter .State} {n : ℕ} → (eqb (length answer) 1 && eqb (length tally) 1) ≡ true
-        → _≡_ {A = Step (K .filter .State)} (record { answer = a; state = s }) (lentStep (K .filter) (fitting K ns cs) (recordOf K ns cs) x) → n ≡ refusalOf a → (n ≡ 0 → ⊥)
+        → _≡_ {A = Step (K .filter .State)} (record { answer = a; state = s }) (lentStep (K .filter) (fitting K ns cs) (recordOf K ns cs) x) → n ≡ refusalOf a
+        → (n ≡ 0 → ⊥)
         → unchanged K ns cs answer tally n ≡ stepCall K ns cs x answer tally
     unfolding stepCall
     step-refused {a} {s} {n} h e g k = rw (h, ← e, ← g, ne-eqb n 0 k)
 
-    pub step-accepted : {a : Answer} {s : K .filter .State} {n : ℕ} {ns′ ys : List Float} {cs′ tally′ : List ℕ} → (eqb (length answer) 1 && eqb (length tally) 1) ≡ true
-        → _≡_ {A = Step (K .filter .State)} (record { answer = a; state = s }) (lentStep (K .filter) (fitting K ns cs) (recordOf K ns cs) x) → n ≡ refusalOf a → n ≡ 0
+    pub step-accepted : {a : Answer} {s : K .filter .State} {n : ℕ} {ns′ ys : List Float} {cs′ tally′ : List ℕ}
+        → (eqb (length answer) 1 && eqb (length tally) 1) ≡ true
+        → _≡_ {A = Step (K .filter .State)} (record { answer = a; state = s }) (lentStep (K .filter) (fitting K ns cs) (recordOf K ns cs) x) → n ≡ refusalOf a
+        → n ≡ 0
         → ns′ ≡ K .numbers s → cs′ ≡ K .counts s → ys ≡ numberOf a ∷ [] → tally′ ≡ flag (isClouded a) ∷ []
         → _≡_ {A = Call} (record { refusal = Accepted; numbers = ns′; counts = cs′; answers = ys; clouded = tally′ }) (stepCall K ns cs x answer tally)
     unfolding stepCall
@@ -84,13 +91,20 @@ module _ (K : Kind) (ns : List Float) (cs : List ℕ) where
     block-unfit h k = rw (eq-eqb (length tally) 1 h, unfit-block (K .filter) (fitting K ns cs) (recordOf K ns cs) input output k)
 
     pub block-refused : {n c : ℕ} {s : K .filter .State} {o : List Float} → length tally ≡ 1
-        → _≡_ {A = Block (K .filter .State)} (record { refusal = n; clouded = c; state = s; output = o }) (lentBlock (K .filter) (fitting K ns cs) (recordOf K ns cs) input output) → (n ≡ 0 → ⊥)
+        → _≡_ {A = Block (K .filter .State)} (record { refusal = n; clouded = c; state = s; output = o })
+        (lentBlock (K .filter) (fitting K ns cs) (recordOf K ns cs) input output) → (n ≡ 0 → ⊥)
         → unchanged K ns cs o tally n ≡ blockCall K ns cs input output tally
     unfolding blockCall
-    block-refused {n} h e k = rw (eq-eqb (length tally) 1 h, ← e, ne-eqb n 0 k, block-keeps (K .filter) (fitting K ns cs) (recordOf K ns cs) input output e k .1)
+    block-refused {n} h e k = rw (
+      eq-eqb (length tally) 1 h,
+      ← e,
+      ne-eqb n 0 k,
+      block-keeps (K .filter) (fitting K ns cs) (recordOf K ns cs) input output e k .1,
+    )
 
     pub block-accepted : {n c : ℕ} {s : K .filter .State} {o ns′ : List Float} {cs′ tally′ : List ℕ} → length tally ≡ 1
-        → _≡_ {A = Block (K .filter .State)} (record { refusal = n; clouded = c; state = s; output = o }) (lentBlock (K .filter) (fitting K ns cs) (recordOf K ns cs) input output) → n ≡ 0
+        → _≡_ {A = Block (K .filter .State)} (record { refusal = n; clouded = c; state = s; output = o })
+        (lentBlock (K .filter) (fitting K ns cs) (recordOf K ns cs) input output) → n ≡ 0
         → ns′ ≡ K .numbers s → cs′ ≡ K .counts s → tally′ ≡ c ∷ []
         → _≡_ {A = Call} (record { refusal = Accepted; numbers = ns′; counts = cs′; answers = o; clouded = tally′ }) (blockCall K ns cs input output tally)
     unfolding blockCall
@@ -101,13 +115,15 @@ module _ (K : Kind) (ns : List Float) (cs : List ℕ) where
   unfolding resetCall
   reset-unfit k = rw (unfit-reset (K .filter) (fitting K ns cs) (recordOf K ns cs) k)
 
-  pub reset-refused : {n : ℕ} {s : K .filter .State} → _≡_ {A = Reset (K .filter .State)} (record { refusal = n; state = s }) (lentReset (K .filter) (fitting K ns cs) (recordOf K ns cs)) → (n ≡ 0 → ⊥)
+  pub reset-refused : {n : ℕ} {s : K .filter .State} → _≡_ {A = Reset (K .filter .State)} (record { refusal = n; state = s }) (lentReset (K .filter)
+      (fitting K ns cs) (recordOf K ns cs)) → (n ≡ 0 → ⊥)
       → notStored ns cs n ≡ resetCall K ns cs
   unfolding resetCall
   reset-refused {n} e k = rw (← e, ne-eqb n 0 k)
 
   pub reset-accepted : {n : ℕ} {s : K .filter .State} {ns′ : List Float} {cs′ : List ℕ}
-      → _≡_ {A = Reset (K .filter .State)} (record { refusal = n; state = s }) (lentReset (K .filter) (fitting K ns cs) (recordOf K ns cs)) → n ≡ 0 → ns′ ≡ K .numbers s → cs′ ≡ K .counts s
+      → _≡_ {A = Reset (K .filter .State)} (record { refusal = n; state = s }) (lentReset (K .filter) (fitting K ns cs) (recordOf K ns cs)) → n ≡ 0 → ns′
+      ≡ K .numbers s → cs′ ≡ K .counts s
       → _≡_ {A = Stored} (record { refusal = Accepted; numbers = ns′; counts = cs′ }) (resetCall K ns cs)
   unfolding resetCall
   reset-accepted {n} e k en ec = rw (← e, eq-eqb n 0 k, en, ec)
@@ -145,38 +161,47 @@ module _ (ts ss : List Float) (cs : List ℕ) where
     unfolding lentReset tapsAt
     fir-lent-reset = rw counted
 
-    fir-lent-block : (input output : List Float) → lentBlock F (fits maxTaps) before input output ≡ lentBlock F (fitting (firKind ts) ss cs) (recordOf (firKind ts) ss cs) input output
+    fir-lent-block : (input output : List Float) → lentBlock F (fits maxTaps) before input output
+        ≡ lentBlock F (fitting (firKind ts) ss cs) (recordOf (firKind ts) ss cs) input output
     unfolding lentBlock tapsAt
     fir-lent-block input output = rw counted
 
-    module _ (x : Float) (answer : List Float) (tally : List ℕ) (single : (eqb (length answer) 1 && eqb (length tally) 1) ≡ true) {a : Answer} {ss′ : List Float} {h n : ℕ}
+    module _ (x : Float) (answer : List Float) (tally : List ℕ) (single : (eqb (length answer) 1 && eqb (length tally) 1) ≡ true) {a : Answer}
+        {ss′ : List Float} {h n : ℕ}
         (e : _≡_ {A = Step TapsRecord} (record { answer = a; state = with ss′ h }) (lentStep F (fits maxTaps) before x)) (g : n ≡ refusalOf a) where
-      pub fir-step-refused : (n ≡ 0 → ⊥) → _≡_ {A = Call} (record { refusal = n; numbers = ss′; counts = cs; answers = answer; clouded = tally }) (stepCall (firKind ts) ss cs x answer tally)
+      pub fir-step-refused : (n ≡ 0 → ⊥) → _≡_ {A = Call} (record { refusal = n; numbers = ss′; counts = cs; answers = answer; clouded = tally })
+          (stepCall (firKind ts) ss cs x answer tally)
       fir-step-refused k =
           let same : ss′ ≡ ss = ap (λ (r : TapsRecord). r .samples) (step-keeps F (fits maxTaps) before x e (λ z. k (g ∙ z))) in
-          ap (λ (l : List Float). record { refusal = n; numbers = l; counts = cs; answers = answer; clouded = tally }) same ∙ step-refused (firKind ts) ss cs x answer tally single (e ∙ fir-lent-step x) g k
+          ap (λ (l : List Float). record { refusal = n; numbers = l; counts = cs; answers = answer; clouded = tally }) same
+          ∙ step-refused (firKind ts) ss cs x answer tally single (e ∙ fir-lent-step x) g k
 
       pub fir-step-accepted : n ≡ 0 → {ys : List Float} {tally′ : List ℕ} → ys ≡ numberOf a ∷ [] → tally′ ≡ flag (isClouded a) ∷ []
-          → _≡_ {A = Call} (record { refusal = Accepted; numbers = ss′; counts = set cs 1 h; answers = ys; clouded = tally′ }) (stepCall (firKind ts) ss cs x answer tally)
+          → _≡_ {A = Call} (record { refusal = Accepted; numbers = ss′; counts = set cs 1 h; answers = ys; clouded = tally′ })
+          (stepCall (firKind ts) ss cs x answer tally)
       fir-step-accepted k ey et = step-accepted (firKind ts) ss cs x answer tally single (e ∙ fir-lent-step x) g k refl (counts-set ss′ h) ey et
 
     module _ (input output : List Float) (tally : List ℕ) (single : length tally ≡ 1) {ss′ o : List Float} {n d h : ℕ}
-        (e : _≡_ {A = Block TapsRecord} (record { refusal = n; clouded = d; state = with ss′ h; output = o }) (lentBlock F (fits maxTaps) before input output)) where
-      pub fir-block-refused : (n ≡ 0 → ⊥) → _≡_ {A = Call} (record { refusal = n; numbers = ss′; counts = cs; answers = o; clouded = tally }) (blockCall (firKind ts) ss cs input output tally)
-      fir-block-refused k =
-          let same : ss′ ≡ ss = ap (λ (r : TapsRecord). r .samples) (block-keeps F (fits maxTaps) before input output e k .0) in
-          ap (λ (l : List Float). record { refusal = n; numbers = l; counts = cs; answers = o; clouded = tally }) same
-          ∙ block-refused (firKind ts) ss cs input output tally single (e ∙ fir-lent-block input output) k
+        (e : _≡_ {A = Block TapsRecord} (record { refusal = n; clouded = d; state = with ss′ h; output = o }) (lentBlock F (fits maxTaps) before input output))
+      where
+        pub fir-block-refused : (n ≡ 0 → ⊥) → _≡_ {A = Call} (record { refusal = n; numbers = ss′; counts = cs; answers = o; clouded = tally })
+            (blockCall (firKind ts) ss cs input output tally)
+        fir-block-refused k =
+            let same : ss′ ≡ ss = ap (λ (r : TapsRecord). r .samples) (block-keeps F (fits maxTaps) before input output e k .0) in
+            ap (λ (l : List Float). record { refusal = n; numbers = l; counts = cs; answers = o; clouded = tally }) same
+            ∙ block-refused (firKind ts) ss cs input output tally single (e ∙ fir-lent-block input output) k
 
-      pub fir-block-accepted : n ≡ 0 → {tally′ : List ℕ} → tally′ ≡ d ∷ []
-          → _≡_ {A = Call} (record { refusal = Accepted; numbers = ss′; counts = set cs 1 h; answers = o; clouded = tally′ }) (blockCall (firKind ts) ss cs input output tally)
-      fir-block-accepted k et = block-accepted (firKind ts) ss cs input output tally single (e ∙ fir-lent-block input output) k refl (counts-set ss′ h) et
+        pub fir-block-accepted : n ≡ 0 → {tally′ : List ℕ} → tally′ ≡ d ∷ []
+            → _≡_ {A = Call} (record { refusal = Accepted; numbers = ss′; counts = set cs 1 h; answers = o; clouded = tally′ })
+            (blockCall (firKind ts) ss cs input output tally)
+        fir-block-accepted k et = block-accepted (firKind ts) ss cs input output tally single (e ∙ fir-lent-block input output) k refl (counts-set ss′ h) et
 
-    module _ {ss′ : List Float} {n h : ℕ} (e : _≡_ {A = Reset TapsRecord} (record { refusal = n; state = with ss′ h }) (lentReset F (fits maxTaps) before)) where
-      pub fir-reset-refused : (n ≡ 0 → ⊥) → notStored ss′ cs n ≡ resetCall (firKind ts) ss cs
-      fir-reset-refused k =
-          let same : ss′ ≡ ss = ap (λ (r : TapsRecord). r .samples) (reset-keeps F (fits maxTaps) before e k) in
-          ap (λ (l : List Float). notStored l cs n) same ∙ reset-refused (firKind ts) ss cs (e ∙ fir-lent-reset) k
+    module _ {ss′ : List Float} {n h : ℕ} (e : _≡_ {A = Reset TapsRecord} (record { refusal = n; state = with ss′ h }) (lentReset F (fits maxTaps) before))
+      where
+        pub fir-reset-refused : (n ≡ 0 → ⊥) → notStored ss′ cs n ≡ resetCall (firKind ts) ss cs
+        fir-reset-refused k =
+            let same : ss′ ≡ ss = ap (λ (r : TapsRecord). r .samples) (reset-keeps F (fits maxTaps) before e k) in
+            ap (λ (l : List Float). notStored l cs n) same ∙ reset-refused (firKind ts) ss cs (e ∙ fir-lent-reset) k
 
-      pub fir-reset-accepted : n ≡ 0 → notStored ss′ (set cs 1 h) Accepted ≡ resetCall (firKind ts) ss cs
-      fir-reset-accepted k = reset-accepted (firKind ts) ss cs (e ∙ fir-lent-reset) k refl (counts-set ss′ h)
+        pub fir-reset-accepted : n ≡ 0 → notStored ss′ (set cs 1 h) Accepted ≡ resetCall (firKind ts) ss cs
+        fir-reset-accepted k = reset-accepted (firKind ts) ss cs (e ∙ fir-lent-reset) k refl (counts-set ss′ h)

@@ -1,18 +1,17 @@
 -- A list of calls of the C functions shows what `run` says, for any kind of record that is read back from the slices as it was written into them.
 use mathlib.Core.Path.{_≡_, refl, sym, ap, ap₂, _∙_}
-use mathlib.Core.Bool.{Bool, true, false, _&&_, cond, false≢true}
+use mathlib.Core.Bool.{Bool, true, false, _&&_, false≢true}
 use mathlib.Core.List.{List, [], _∷_}
 use mathlib.Core.Logic.{_⊎_, inl, inr}
 use Prim.Native.Nat.{ℕ}
 use native.Mathlib.Omega.{arith}
-use lib.Dec.{eqb, ltb}
-use lib.ListN.{length, getD}
-use lib.Ieee.{Float, nan}
+use lib.Dec.{eqb}
+use lib.ListN.{length}
+use lib.Ieee.{Float}
 use borrow.Author.Tests.{ne-eqb, eqb-true, eqb-false, ltb-true, ltb-false}
 use Rattle.runs.specs.Refusals.{Accepted, ShortOutput, BadCall}
 use Rattle.runs.specs.Runs as Runs
-use Rattle.runs.specs.Runs.{Answer, marked, refused, numberOf, isClouded, Filter, Step, Reset, Block, refusedBlock, cloudedIn, written, answer, answers, after}
-use Rattle.runs.specs.Lent.{lentStep, lentReset, lentBlock}
+use Rattle.runs.specs.Runs.{marked, refused, numberOf, isClouded, Filter, refusedBlock, cloudedIn, written, answer, answers, after}
 use Rattle.runs.specs.Forgetting.{Call, step, block, reset, Outcome, stepped, blocked, wasReset, outcome, left, run}
 use Rattle.runs.specs.Forgetting.{isShort}
 use Rattle.runs.proofs.Laws.{step-refused, step-answered, step-is, reset-refused, reset-done, block-is, block-refused, block-short}
@@ -20,7 +19,7 @@ use Rattle.runs.proofs.Forgetting.{step-outcome, step-left, block-outcome, bloc
 use Rattle.c_layout.specs.Layout.{flag}
 use Rattle.c_calls.specs.Kinds.{Kind}
 use Rattle.c_calls.specs.Calls as Calls
-use Rattle.c_calls.specs.Calls.{stepCall, blockCall, blockInPlaceCall, resetCall, unchanged, accepted, notStored, fitting, recordOf}
+use Rattle.c_calls.specs.Calls.{stepCall, blockCall, blockInPlaceCall, resetCall, unchanged, notStored}
 use Rattle.c_calls.proofs.Laws as Laws
 use Rattle.c_calls.proofs.Laws.{step-not-single, step-unfit, lend-step, block-not-single, block-unfit, lend-block, block-accepted, reset-unfit, lend-reset, reset-accepted}
 use Rattle.c_calls.specs.Lists.{answerShown, countShown, CCall, stepCalled, blockCalled, blockInPlaceCalled, resetCalled, CCalls, ended, called, badlyCalled}
@@ -58,7 +57,8 @@ marked-accepted false y = refl
 
 -- the slices after a call that changed none of them
 left-by : (K : Kind) {numbers numbers′ answers answers′ : List Float} {counts counts′ clouded clouded′ : List ℕ} {r n : ℕ}
-    → _≡_ {A = Calls.Call} (record { refusal = r; numbers = numbers′; counts = counts′; answers = answers′; clouded = clouded′ }) (unchanged K numbers counts answers clouded n) → Left numbers counts numbers′ counts′
+    → _≡_ {A = Calls.Call} (record { refusal = r; numbers = numbers′; counts = counts′; answers = answers′; clouded = clouded′ })
+    (unchanged K numbers counts answers clouded n) → Left numbers counts numbers′ counts′
 left-by K e = record { same = ap (λ (z : Calls.Call). z .numbers) e; same-counts = ap (λ (z : Calls.Call). z .counts) e }
 
 module _ (K : Kind) (B : ReadBack K) where
@@ -67,7 +67,8 @@ module _ (K : Kind) (B : ReadBack K) where
 
   -- a call is refused by 13 and leaves the slices, or is a call of the filter
   abbrev Verdict : ℕ → List Float → List ℕ → List Float → List ℕ → Call → Outcome → Type 0
-  Verdict r numbers counts numbers′ counts′ c o = ((r ≡ BadCall) × Left numbers counts numbers′ counts′) ⊎ ((r ≡ BadCall → ⊥) × Shown K numbers counts numbers′ counts′ c o)
+  Verdict r numbers counts numbers′ counts′ c o = ((r ≡ BadCall) × Left numbers counts numbers′ counts′) ⊎
+      ((r ≡ BadCall → ⊥) × Shown K numbers counts numbers′ counts′ c o)
 
   pub good-after : (s : F .State) (xs : List Float) → F .check s ≡ true → B .Good s → B .Good (after F s xs)
   unfolding after
@@ -92,7 +93,8 @@ module _ (K : Kind) (B : ReadBack K) where
     )
 
     -- an accepted one, which wrote the record s
-    accepted-shown : {r : ℕ} {c : Call} {o : Outcome} {s : F .State} → K .fit numbers counts ≡ true → B .Good s → numbers′ ≡ K .numbers s → counts′ ≡ K .counts s → (r ≡ BadCall → ⊥)
+    accepted-shown : {r : ℕ} {c : Call} {o : Outcome} {s : F .State} → K .fit numbers counts ≡ true → B .Good s → numbers′ ≡ K .numbers s → counts′
+        ≡ K .counts s → (r ≡ BadCall → ⊥)
         → o ≡ outcome F s₀ c → s ≡ left F s₀ c → Verdict r numbers counts numbers′ counts′ c o
     accepted-shown {s = s} fit g en ec bad shows leaves = inr (
       bad,
@@ -111,7 +113,8 @@ module _ (K : Kind) (B : ReadBack K) where
     step-verdict : (r : ℕ) (x : Float) (answer answer′ : List Float) (clouded clouded′ : List ℕ)
         → record { refusal = r; numbers = numbers′; counts = counts′; answers = answer′; clouded = clouded′ } ≡ stepCall K numbers counts x answer clouded
         → Verdict r numbers counts numbers′ counts′ (step x) (stepped (answerShown r answer′ clouded′))
-    step-verdict r x answer answer′ clouded clouded′ e = go (eqb (length answer) 1 && eqb (length clouded) 1) (K .fit numbers counts) (F .check s₀) refl refl refl
+    step-verdict r x answer answer′ clouded clouded′ e = go (eqb (length answer) 1 && eqb (length clouded) 1) (K .fit numbers counts) (F .check s₀) refl refl
+        refl
       where
         go : (a b c : Bool) → (eqb (length answer) 1 && eqb (length clouded) 1) ≡ a → K .fit numbers counts ≡ b → F .check s₀ ≡ c
             → Verdict r numbers counts numbers′ counts′ (step x) (stepped (answerShown r answer′ clouded′))
@@ -122,7 +125,8 @@ module _ (K : Kind) (B : ReadBack K) where
             let z = e ∙ sym (Laws.step-refused K numbers counts x answer clouded p lent refl (B .numbered .0)) in
             let er : r ≡ F .refusal = ap (λ (k : Calls.Call). k .refusal) z in
             let shown : answerShown r answer′ clouded′ ≡ refused (F .refusal) = rw (er, ne-eqb (F .refusal) 0 (B .numbered .0)) in
-            refused-shown q (left-by K z) (not-bad (B .numbered .1) er) (ap stepped shown ∙ sym (outcome-refused F s₀ t (step x))) (sym (left-refused F s₀ t (step x)))
+            refused-shown q (left-by K z) (not-bad (B .numbered .1) er) (ap stepped shown ∙ sym (outcome-refused F s₀ t (step x)))
+            (sym (left-refused F s₀ t (step x)))
         go true true true p q t =
             let m = F .mark s₀ x in
             let y = F .value s₀ x in
@@ -132,17 +136,20 @@ module _ (K : Kind) (B : ReadBack K) where
             let ey : answer′ ≡ numberOf (marked m y) ∷ [] = ap (λ (k : Calls.Call). k .answers) z in
             let et : clouded′ ≡ flag (isClouded (marked m y)) ∷ [] = ap (λ (k : Calls.Call). k .clouded) z in
             let shown : answerShown r answer′ clouded′ ≡ marked m y = rw (er, ey, et) (shown-marked m y) in
-            accepted-shown q (B .good-next s₀ x t (B .good-read numbers counts q)) (ap (λ (k : Calls.Call). k .numbers) z) (ap (λ (k : Calls.Call). k .counts) z) (not-bad (λ h. omega (arith, h)) er)
+            accepted-shown q (B .good-next s₀ x t (B .good-read numbers counts q)) (ap (λ (k : Calls.Call). k .numbers) z)
+            (ap (λ (k : Calls.Call). k .counts) z) (not-bad (λ h. omega (arith, h)) er)
             (ap stepped shown ∙ sym (step-outcome F s₀ t x)) (sym (step-left F s₀ t x))
 
     -- ---- a block
     block-verdict : (r : ℕ) (input output output′ : List Float) (clouded clouded′ : List ℕ)
         → record { refusal = r; numbers = numbers′; counts = counts′; answers = output′; clouded = clouded′ } ≡ blockCall K numbers counts input output clouded
         → Verdict r numbers counts numbers′ counts′ (block input output) (blocked r (countShown r clouded′) output′)
-    block-verdict r input output output′ clouded clouded′ e = go (eqb (length clouded) 1) (K .fit numbers counts) (F .check s₀) (isShort input output) refl refl refl refl
+    block-verdict r input output output′ clouded clouded′ e = go (eqb (length clouded) 1) (K .fit numbers counts) (F .check s₀) (isShort input output) refl refl
+        refl refl
       where
         -- a refusal by n that is not 13
-        kept : (n : ℕ) → (n ≡ 0 → ⊥) → (n ≡ BadCall → ⊥) → length clouded ≡ 1 → K .fit numbers counts ≡ true → refusedBlock n s₀ output ≡ Runs.block F s₀ input output
+        kept : (n : ℕ) → (n ≡ 0 → ⊥) → (n ≡ BadCall → ⊥) → length clouded ≡ 1 → K .fit numbers counts ≡ true → refusedBlock n s₀ output
+            ≡ Runs.block F s₀ input output
             → blocked n 0 output ≡ outcome F s₀ (block input output) → s₀ ≡ left F s₀ (block input output)
             → Verdict r numbers counts numbers′ counts′ (block input output) (blocked r (countShown r clouded′) output′)
         kept n h k p q b shows leaves =
@@ -154,13 +161,17 @@ module _ (K : Kind) (B : ReadBack K) where
 
         go : (a b c d : Bool) → eqb (length clouded) 1 ≡ a → K .fit numbers counts ≡ b → F .check s₀ ≡ c → isShort input output ≡ d
             → Verdict r numbers counts numbers′ counts′ (block input output) (blocked r (countShown r clouded′) output′)
-        go false b c d p q t i = let z = e ∙ sym (block-not-single K numbers counts input output clouded (eqb-false (length clouded) 1 p)) in inl (ap (λ (k : Calls.Call). k .refusal) z, left-by K z)
-        go true false c d p q t i = let z = e ∙ sym (block-unfit K numbers counts input output clouded (eqb-true (length clouded) 1 p) q) in inl (ap (λ (k : Calls.Call). k .refusal) z, left-by K z)
+        go false b c d p q t i = let z = e ∙ sym (block-not-single K numbers counts input output clouded (eqb-false (length clouded) 1 p)) in
+            inl (ap (λ (k : Calls.Call). k .refusal) z, left-by K z)
+        go true false c d p q t i = let z = e ∙ sym (block-unfit K numbers counts input output clouded (eqb-true (length clouded) 1 p) q) in
+            inl (ap (λ (k : Calls.Call). k .refusal) z, left-by K z)
         go true true false d p q t i =
-            kept (F .refusal) (B .numbered .0) (B .numbered .1) (eqb-true (length clouded) 1 p) q (block-refused F s₀ input output t) (sym (outcome-refused F s₀ t (block input output)))
+            kept (F .refusal) (B .numbered .0) (B .numbered .1) (eqb-true (length clouded) 1 p) q (block-refused F s₀ input output t)
+            (sym (outcome-refused F s₀ t (block input output)))
             (sym (left-refused F s₀ t (block input output)))
         go true true true true p q t i =
-            kept ShortOutput (λ h. omega (arith, h)) (λ h. omega (arith, h)) (eqb-true (length clouded) 1 p) q (block-short F s₀ input output t (ltb-true (length output) (length input) i))
+            kept ShortOutput (λ h. omega (arith, h)) (λ h. omega (arith, h)) (eqb-true (length clouded) 1 p) q
+            (block-short F s₀ input output t (ltb-true (length output) (length input) i))
             (sym (block-outcome F s₀ t input output ∙ rw i)) (sym (block-left F s₀ t input output ∙ rw i))
         go true true true false p q t i =
             let ys = answers F s₀ input in
@@ -170,14 +181,17 @@ module _ (K : Kind) (B : ReadBack K) where
             let eo : output′ ≡ written ys output = ap (λ (c : Calls.Call). c .answers) z in
             let et : clouded′ ≡ cloudedIn ys ∷ [] = ap (λ (c : Calls.Call). c .clouded) z in
             let shown : blocked r (countShown r clouded′) output′ ≡ blocked 0 (cloudedIn ys) (written ys output) = rw (er, eo, et) in
-            accepted-shown q (good-after s₀ input t (B .good-read numbers counts q)) (ap (λ (c : Calls.Call). c .numbers) z) (ap (λ (c : Calls.Call). c .counts) z) (not-bad (λ h. omega (arith, h)) er)
+            accepted-shown q (good-after s₀ input t (B .good-read numbers counts q)) (ap (λ (c : Calls.Call). c .numbers) z)
+            (ap (λ (c : Calls.Call). c .counts) z) (not-bad (λ h. omega (arith, h)) er)
             (shown ∙ sym (block-outcome F s₀ t input output ∙ rw i)) (sym (block-left F s₀ t input output ∙ rw i))
 
     -- ---- a reset
-    reset-verdict : (r : ℕ) → record { refusal = r; numbers = numbers′; counts = counts′ } ≡ resetCall K numbers counts → Verdict r numbers counts numbers′ counts′ reset (wasReset r)
+    reset-verdict : (r : ℕ) → record { refusal = r; numbers = numbers′; counts = counts′ } ≡ resetCall K numbers counts
+        → Verdict r numbers counts numbers′ counts′ reset (wasReset r)
     reset-verdict r e = go (K .fit numbers counts) (F .check s₀) refl refl
       where
-        stored : {n : ℕ} → _≡_ {A = Calls.Stored} (record { refusal = r; numbers = numbers′; counts = counts′ }) (notStored numbers counts n) → Left numbers counts numbers′ counts′
+        stored : {n : ℕ} → _≡_ {A = Calls.Stored} (record { refusal = r; numbers = numbers′; counts = counts′ }) (notStored numbers counts n)
+            → Left numbers counts numbers′ counts′
         stored z = record { same = ap (λ (k : Calls.Stored). k .numbers) z; same-counts = ap (λ (k : Calls.Stored). k .counts) z }
 
         go : (b c : Bool) → K .fit numbers counts ≡ b → F .check s₀ ≡ c → Verdict r numbers counts numbers′ counts′ reset (wasReset r)
@@ -189,16 +203,20 @@ module _ (K : Kind) (B : ReadBack K) where
         go true true q t =
             let z = e ∙ sym (reset-accepted K numbers counts (lend-reset K numbers counts q refl (reset-done F s₀ t refl)) refl refl refl) in
             let er : r ≡ 0 = ap (λ (k : Calls.Stored). k .refusal) z in
-            accepted-shown q (B .good-cleared s₀ (B .good-read numbers counts q)) (ap (λ (k : Calls.Stored). k .numbers) z) (ap (λ (k : Calls.Stored). k .counts) z) (not-bad (λ h. omega (arith, h)) er)
+            accepted-shown q (B .good-cleared s₀ (B .good-read numbers counts q)) (ap (λ (k : Calls.Stored). k .numbers) z)
+            (ap (λ (k : Calls.Stored). k .counts) z) (not-bad (λ h. omega (arith, h)) er)
             (ap wasReset er ∙ sym (reset-outcome F s₀ t)) (sym (reset-left F s₀ t))
 
   -- ---- one call, and a list of them
   verdict : {r : ℕ} {numbers numbers′ : List Float} {counts counts′ : List ℕ} {c : Call} {o : Outcome} → CCall K r numbers counts numbers′ counts′ c o
       → Verdict r numbers counts numbers′ counts′ c o
   unfolding blockInPlaceCall
-  verdict (stepCalled r numbers numbers′ counts counts′ x answer answer′ clouded clouded′ e) = step-verdict numbers numbers′ counts counts′ r x answer answer′ clouded clouded′ e
-  verdict (blockCalled r numbers numbers′ counts counts′ input output output′ clouded clouded′ e) = block-verdict numbers numbers′ counts counts′ r input output output′ clouded clouded′ e
-  verdict (blockInPlaceCalled r numbers numbers′ counts counts′ samples samples′ clouded clouded′ e) = block-verdict numbers numbers′ counts counts′ r samples samples samples′ clouded clouded′ e
+  verdict (stepCalled r numbers numbers′ counts counts′ x answer answer′ clouded clouded′ e) = step-verdict numbers numbers′ counts counts′ r x answer answer′
+      clouded clouded′ e
+  verdict (blockCalled r numbers numbers′ counts counts′ input output output′ clouded clouded′ e) = block-verdict numbers numbers′ counts counts′ r input output
+      output′ clouded clouded′ e
+  verdict (blockInPlaceCalled r numbers numbers′ counts counts′ samples samples′ clouded clouded′ e) = block-verdict numbers numbers′ counts counts′ r samples
+      samples samples′ clouded clouded′ e
   verdict (resetCalled r numbers numbers′ counts counts′ e) = reset-verdict numbers numbers′ counts counts′ r e
 
   pub c-calls-run : {numbers : List Float} {counts : List ℕ} {calls : List Call} {outcomes : List Outcome} → CCalls K numbers counts calls outcomes
@@ -213,12 +231,14 @@ module _ (K : Kind) (B : ReadBack K) where
       go (inr v) e = ap₂ _∷_ (v .1 .shows) (e ∙ ap (λ (s : F .State). run F s calls) (v .1 .leaves))
   c-calls-run (badlyCalled numbers numbers′ counts counts′ c o calls outcomes one rest) = go (verdict one) (c-calls-run rest)
     where
-      go : Verdict BadCall numbers counts numbers′ counts′ c o → outcomes ≡ run F (K .read numbers′ counts′) calls → outcomes ≡ run F (K .read numbers counts) calls
+      go : Verdict BadCall numbers counts numbers′ counts′ c o → outcomes ≡ run F (K .read numbers′ counts′) calls → outcomes
+          ≡ run F (K .read numbers counts) calls
       go (inl v) e = e ∙ ap (λ (s : F .State). run F s calls) (ap₂ (K .read) (v .1 .same) (v .1 .same-counts))
       go (inr v) e = absurd (v .0 refl)
 
   -- slices that do not fit are called by no call of the filter
-  pub c-calls-none : {numbers : List Float} {counts : List ℕ} {calls : List Call} {outcomes : List Outcome} → K .fit numbers counts ≡ false → CCalls K numbers counts calls outcomes
+  pub c-calls-none : {numbers : List Float} {counts : List ℕ} {calls : List Call} {outcomes : List Outcome} → K .fit numbers counts ≡ false
+      → CCalls K numbers counts calls outcomes
       → (calls ≡ []) × (outcomes ≡ [])
   c-calls-none h (ended numbers counts) = (refl, refl)
   c-calls-none h (called r numbers numbers′ counts counts′ c o calls outcomes one good rest) = absurd (go (verdict one))
@@ -228,6 +248,7 @@ module _ (K : Kind) (B : ReadBack K) where
       go (inr v) = false≢true (sym h ∙ v .1 .fit)
   c-calls-none h (badlyCalled numbers numbers′ counts counts′ c o calls outcomes one rest) = go (verdict one) (λ k. c-calls-none k rest)
     where
-      go : Verdict BadCall numbers counts numbers′ counts′ c o → (K .fit numbers′ counts′ ≡ false → (calls ≡ []) × (outcomes ≡ [])) → (calls ≡ []) × (outcomes ≡ [])
+      go : Verdict BadCall numbers counts numbers′ counts′ c o → (K .fit numbers′ counts′ ≡ false → (calls ≡ []) × (outcomes ≡ [])) → (calls ≡ [])
+          × (outcomes ≡ [])
       go (inl v) none = none (ap₂ (K .fit) (v .1 .same) (v .1 .same-counts) ∙ h)
       go (inr v) none = absurd (v .0 refl)

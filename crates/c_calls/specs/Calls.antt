@@ -37,7 +37,8 @@ module _ (K : Kind) (numbers : List Float) (counts : List ℕ) where
     accepted s ys n = record { refusal = Accepted; numbers = K .numbers s; counts = K .counts s; answers = ys; clouded = n ∷ [] }
 
     abbrev pub stepped : Step (K .filter .State) → Call
-    stepped s = cond (eqb (refusalOf (s .answer)) Accepted) (accepted (s .state) (numberOf (s .answer) ∷ []) (flag (isClouded (s .answer)))) (unchanged (refusalOf (s .answer)))
+    stepped s = cond (eqb (refusalOf (s .answer)) Accepted) (accepted (s .state) (numberOf (s .answer) ∷ []) (flag (isClouded (s .answer))))
+        (unchanged (refusalOf (s .answer)))
 
     abbrev pub ran : Block (K .filter .State) → Call
     ran b = cond (eqb (b .refusal) Accepted) (accepted (b .state) (b .output) (b .clouded)) (unchanged (b .refusal))
@@ -69,4 +70,5 @@ notStored numbers counts n = record { refusal = n; numbers = numbers; counts = c
 unfoldable pub resetCall : Kind → List Float → List ℕ → Stored
 resetCall K numbers counts =
     let s = lentReset (K .filter) (fitting K numbers counts) (recordOf K numbers counts) in
-    cond (eqb (s .refusal) Accepted) (record { refusal = Accepted; numbers = K .numbers (s .state); counts = K .counts (s .state) }) (notStored numbers counts (s .refusal))
+    cond (eqb (s .refusal) Accepted) (record { refusal = Accepted; numbers = K .numbers (s .state); counts = K .counts (s .state) })
+    (notStored numbers counts (s .refusal))

@@ -1,4 +1,5 @@
--- Lists of calls of the C functions on one filter, each on what the call before it left in the filter's slices. A premise of each call is its contract, word for
+-- Lists of calls of the C functions on one filter, each on what the call before it left in the filter's slices. A premise of each call is its contract, word
+-- for
 -- word, at cascadeKind for a cascade and at firKind for a tap record.
 use Prim.Native.Nat.{ℕ}
 use mathlib.Core.Path.{_≡_}
@@ -41,6 +42,7 @@ module _ (K : Kind) where
   pub data CCalls : List Float → List ℕ → List Call → List Outcome → Type 0 where
     ended : (numbers : List Float) (counts : List ℕ) → CCalls numbers counts [] []
     called : (r : ℕ) (numbers numbers′ : List Float) (counts counts′ : List ℕ) (c : Call) (o : Outcome) (calls : List Call) (outcomes : List Outcome)
-        → CCall r numbers counts numbers′ counts′ c o → (r ≡ BadCall → ⊥) → CCalls numbers′ counts′ calls outcomes → CCalls numbers counts (c ∷ calls) (o ∷ outcomes)
+        → CCall r numbers counts numbers′ counts′ c o → (r ≡ BadCall → ⊥) → CCalls numbers′ counts′ calls outcomes
+        → CCalls numbers counts (c ∷ calls) (o ∷ outcomes)
     badlyCalled : (numbers numbers′ : List Float) (counts counts′ : List ℕ) (c : Call) (o : Outcome) (calls : List Call) (outcomes : List Outcome)
         → CCall BadCall numbers counts numbers′ counts′ c o → CCalls numbers′ counts′ calls outcomes → CCalls numbers counts calls outcomes

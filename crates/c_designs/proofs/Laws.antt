@@ -39,7 +39,8 @@ module _ (d : DesignRecord) (ns : List Float) (cs : List ℕ) where
   unfolding designCall
   design-refused h k = rw (h, ne-eqb (d .refusal) 0 k)
 
-  pub design-accepted : {ns′ : List Float} {cs′ : List ℕ} → cascadePlaces ns cs ≡ true → d .refusal ≡ 0 → ns′ ≡ cascadeNumbers (d .cascade) → cs′ ≡ cascadeCounts (d .cascade)
+  pub design-accepted : {ns′ : List Float} {cs′ : List ℕ} → cascadePlaces ns cs ≡ true → d .refusal ≡ 0 → ns′ ≡ cascadeNumbers (d .cascade) → cs′
+      ≡ cascadeCounts (d .cascade)
       → _≡_ {A = Stored} (record { refusal = Accepted; numbers = ns′; counts = cs′ }) (designCall d ns cs)
   unfolding designCall
   design-accepted h k en ec = rw (h, eq-eqb (d .refusal) 0 k, en, ec)
@@ -53,7 +54,8 @@ module _ (m : Made) (ts ss : List Float) (cs : List ℕ) where
   unfolding madeCall
   made-refused h k = rw (h, ne-eqb (m .refusal) 0 k)
 
-  pub made-accepted : {ts′ ss′ : List Float} {cs′ : List ℕ} → tapsPlaces ts ss cs ≡ true → m .refusal ≡ 0 → ts′ ≡ m .filter .taps → ss′ ≡ m .filter .samples → cs′ ≡ tapsCounts (m .filter)
+  pub made-accepted : {ts′ ss′ : List Float} {cs′ : List ℕ} → tapsPlaces ts ss cs ≡ true → m .refusal ≡ 0 → ts′ ≡ m .filter .taps → ss′ ≡ m .filter .samples
+      → cs′ ≡ tapsCounts (m .filter)
       → _≡_ {A = TapsStored} (record { refusal = Accepted; taps = ts′; samples = ss′; counts = cs′ }) (madeCall ts ss cs m)
   unfolding madeCall
   made-accepted h k et es ec = rw (h, eq-eqb (m .refusal) 0 k, et, es, ec)

@@ -19,7 +19,8 @@ use Rattle.c_calls.specs.Calls.{Stored, notStored}
 unfoldable pub designCall : DesignRecord → List Float → List ℕ → Stored
 designCall d numbers counts =
     cond (cascadePlaces numbers counts)
-    (cond (eqb (d .refusal) Accepted) (record { refusal = Accepted; numbers = cascadeNumbers (d .cascade); counts = cascadeCounts (d .cascade) }) (notStored numbers counts (d .refusal)))
+    (cond (eqb (d .refusal) Accepted) (record { refusal = Accepted; numbers = cascadeNumbers (d .cascade); counts = cascadeCounts (d .cascade) })
+    (notStored numbers counts (d .refusal)))
     (notStored numbers counts BadCall)
 
 -- ---- taps, designed or ready-made, into slices
@@ -44,7 +45,8 @@ module _ (taps samples : List Float) (counts : List ℕ) where
   unfoldable pub madeCall : Made → TapsStored
   madeCall m =
       cond tapsPlaces
-      (cond (eqb (m .refusal) Accepted) (record { refusal = Accepted; taps = m .filter .taps; samples = m .filter .samples; counts = tapsCounts (m .filter) }) (tapsUnchanged (m .refusal)))
+      (cond (eqb (m .refusal) Accepted) (record { refusal = Accepted; taps = m .filter .taps; samples = m .filter .samples; counts = tapsCounts (m .filter) })
+      (tapsUnchanged (m .refusal)))
       (tapsUnchanged BadCall)
 
   -- a FIR design by the window's code; there is none above 3

@@ -53,7 +53,8 @@ set-seven l k a b c d e f g h =
     let t₇ = put-turn k 6 (omega arith) h t₆ in
     rw (add-zero k) at (put-done k 7 (omega arith) t₇)
 
-pub set-four : (l : List Float) (k : ℕ) (a b c d : Float) → k + 4 ≤ length l → set (set (set (set l k a) (k + 1) b) (k + 2) c) (k + 3) d ≡ spliced l k (a ∷ b ∷ c ∷ d ∷ [])
+pub set-four : (l : List Float) (k : ℕ) (a b c d : Float) → k + 4 ≤ length l → set (set (set (set l k a) (k + 1) b) (k + 2) c) (k + 3) d
+    ≡ spliced l k (a ∷ b ∷ c ∷ d ∷ [])
 set-four l k a b c d h =
     let t₁ = put-turn k 0 (omega arith) h (put-start l k (a ∷ b ∷ c ∷ d ∷ [])) in
     let t₂ = put-turn k 1 (omega arith) h t₁ in
@@ -67,7 +68,8 @@ more l ys zs k e h = let a : k ≡ 0 + length ys = omega arith in
     ap (λ (z : ℕ). spliced (spliced l 0 ys) z zs) a ∙ spliced-more l 0 ys zs (omega arith)
 
 sections-numbers : (ss : List Section) (s : Section) → length ss ≡ 4
-    → sectionNumbers (sectionView (getD ss 0 s)) ++ sectionNumbers (sectionView (getD ss 1 s)) ++ sectionNumbers (sectionView (getD ss 2 s)) ++ sectionNumbers (sectionView (getD ss 3 s))
+    → sectionNumbers (sectionView (getD ss 0 s)) ++ sectionNumbers (sectionView (getD ss 1 s)) ++ sectionNumbers (sectionView (getD ss 2 s))
+    ++ sectionNumbers (sectionView (getD ss 3 s))
     ≡ sectionsNumbers (map sectionView ss)
 unfolding sectionsNumbers
 sections-numbers [] s h = absurd (omega arith)
@@ -78,7 +80,8 @@ sections-numbers (a ∷ b ∷ c ∷ d ∷ []) s h = refl
 sections-numbers (a ∷ b ∷ c ∷ d ∷ e ∷ ss) s h = absurd (omega arith)
 
 pub sections-written : (l : List Float) (ss : List Section) (s : Section) {l₁ l₂ l₃ l₄ : List Float} → length l ≡ 32 → length ss ≡ 4
-    → l₁ ≡ spliced l 0 (sectionNumbers (sectionView (getD ss 0 s))) → l₂ ≡ spliced l₁ 7 (sectionNumbers (sectionView (getD ss 1 s))) → l₃ ≡ spliced l₂ 14 (sectionNumbers (sectionView (getD ss 2 s)))
+    → l₁ ≡ spliced l 0 (sectionNumbers (sectionView (getD ss 0 s))) → l₂ ≡ spliced l₁ 7 (sectionNumbers (sectionView (getD ss 1 s))) → l₃
+    ≡ spliced l₂ 14 (sectionNumbers (sectionView (getD ss 2 s)))
     → l₄ ≡ spliced l₃ 21 (sectionNumbers (sectionView (getD ss 3 s))) → l₄ ≡ sectionsNumbers (map sectionView ss) ++ drop 28 l
 unfolding spliced
 sections-written l ss s h k e₁ e₂ e₃ e₄ =
@@ -91,7 +94,8 @@ sections-written l ss s h k e₁ e₂ e₃ e₄ =
     let f₄ = e₄ ∙ ap (λ (z : List Float). spliced z 21 d) f₃ ∙ more l (a ++ b ++ c) d 21 refl (omega arith) in
     f₄ ∙ ap (λ (z : List Float). z ++ drop 28 l) (sections-numbers ss s k)
 
-pub first-written : (l ys : List Float) (zs : List Float) {l₁ l₂ : List Float} → length l ≡ 32 → length zs ≡ 4 → l₁ ≡ ys ++ drop 28 l → length l₁ ≡ 32 → l₂ ≡ spliced l₁ 28 zs → l₂ ≡ ys ++ zs
+pub first-written : (l ys : List Float) (zs : List Float) {l₁ l₂ : List Float} → length l ≡ 32 → length zs ≡ 4 → l₁ ≡ ys ++ drop 28 l → length l₁ ≡ 32 → l₂
+    ≡ spliced l₁ 28 zs → l₂ ≡ ys ++ zs
 unfolding spliced
 first-written l ys zs {l₁} {l₂} h k e g f =
     let n : length ys ≡ 28 = omega (arith, ap length e ∙ length-append ys (drop 28 l), length-drop 28 l) in

@@ -158,7 +158,8 @@ fn put_cascade(c: Cascade, numbers: &mut [f64], counts: &mut [usize])
 
 // The cascade that slices hold; the blank one where they do not have its places.
 pub fn read(numbers: &[f64], counts: &[usize]) -> Cascade
-    ensures { λ r. ⌜ cascadeView r ≡ cond (cascadePlaces (now (numbers .entry)) (now (counts .entry))) (cascadeAt (now (numbers .entry)) (now (counts .entry))) blankCascade ⌝ }
+    ensures { λ r. ⌜ cascadeView r ≡ cond (cascadePlaces (now (numbers .entry)) (now (counts .entry))) (cascadeAt (now (numbers .entry)) (now (counts .entry)))
+        blankCascade ⌝ }
 {
     if !has_places(numbers, counts) {
         return Cascade::blank();
@@ -168,7 +169,8 @@ pub fn read(numbers: &[f64], counts: &[usize]) -> Cascade
 
 // Three counts, and true; or false and the slice as it was, where it does not have three places.
 pub fn put_counts(counts: &mut [usize], n0: usize, n1: usize, n2: usize) -> bool
-    ensures { λ r. ⌜ (r ≡ eqb (length (now (counts .entry))) 3) × (now (counts .exit) ≡ cond (eqb (length (now (counts .entry))) 3) (n0 ∷ n1 ∷ n2 ∷ []) (now (counts .entry))) ⌝ }
+    ensures { λ r. ⌜ (r ≡ eqb (length (now (counts .entry))) 3)
+        × (now (counts .exit) ≡ cond (eqb (length (now (counts .entry))) 3) (n0 ∷ n1 ∷ n2 ∷ []) (now (counts .entry))) ⌝ }
 {
     if counts.len() != COUNTS {
         return false;

@@ -11,7 +11,13 @@ use Rattle.cascade.specs.declared.ResetResult.{ResetResult}
 use Rattle.cascade.specs.declared.BlockResult.{BlockResult}
 
 abbrev pub cascadeView : Cascade → CascadeRecord
-cascadeView c = record { sections = map sectionView (c .sections); count = c .count; first = firstView (c .first); hasFirst = c .«has_first»; clouded = c .clouded }
+cascadeView c = record {
+  sections = map sectionView (c .sections);
+  count = c .count;
+  first = firstView (c .first);
+  hasFirst = c .«has_first»;
+  clouded = c .clouded;
+}
 
 abbrev pub updatedView : UpdateResult → Step CascadeRecord
 updatedView r = record { answer = answerView (r .answer); state = cascadeView (r .cascade) }

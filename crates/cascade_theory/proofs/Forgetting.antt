@@ -84,7 +84,8 @@ module _ (f : Format) where
   sections-through (suc n) [] xs = refl
   sections-through (suc n) (g ∷ gs) xs = sections-through n gs (passSection f (sectionOf g) xs)
 
-  through-cons : (n : ℕ) (ss : List SectionRecord) (x : Float) (xs : List Float) → through n ss (x ∷ xs) ≡ sectionsOut f n ss x ∷ through n (sectionsNext f n ss x) xs
+  through-cons : (n : ℕ) (ss : List SectionRecord) (x : Float) (xs : List Float) → through n ss (x ∷ xs)
+      ≡ sectionsOut f n ss x ∷ through n (sectionsNext f n ss x) xs
   unfolding through passSection
   through-cons zero ss x xs = refl
   through-cons (suc n) [] x xs = refl
@@ -141,14 +142,16 @@ module _ (f : Format) where
   after-ahead : (g : Coefficients) (kept : List Float) → after g kept ≡ ahead (idle g) (reverse kept)
   unfolding after ahead
   after-ahead g [] = refl
-  after-ahead g (x ∷ kept) = ap (λ (c : CascadeRecord). next f c x) (after-ahead g kept) ∙ sym (ahead-snoc (idle g) (reverse kept) x) ∙ ap (ahead (idle g)) (sym (reverse-cons x kept))
+  after-ahead g (x ∷ kept) = ap (λ (c : CascadeRecord). next f c x) (after-ahead g kept) ∙ sym (ahead-snoc (idle g) (reverse kept) x)
+      ∙ ap (ahead (idle g)) (sym (reverse-cons x kept))
 
   value-after : (g : Coefficients) (kept : List Float) (x : Float) → value f (after g kept) x ≡ plainValue f g (x ∷ kept)
   unfolding plainValue passAll pass idle
   value-after g kept x =
       ap (λ (c : CascadeRecord). value f c x) (after-ahead g kept) ∙ sym (last-pass (idle g) (reverse kept) x plusZero)
       ∙ ap (λ (l : List Float). last plusZero (pass (idle g) l)) (sym (reverse-cons x kept))
-      ∙ ap (last plusZero) (sym (sections-through (g .count) (g .sections) (cond (g .hasFirst) (passFirst f (firstOf (g .first)) (reverse (x ∷ kept))) (reverse (x ∷ kept)))))
+      ∙ ap (last plusZero) (sym (sections-through (g .count) (g .sections)
+      (cond (g .hasFirst) (passFirst f (firstOf (g .first)) (reverse (x ∷ kept))) (reverse (x ∷ kept)))))
 
   mark-after : (g : Coefficients) (kept : List Float) (x : Float) → mark f (after g kept) x ≡ notAllFinite (x ∷ kept)
   unfolding after idle mark next clouding notAllFinite
@@ -169,7 +172,11 @@ module _ (f : Format) where
   simulates g = record {
     Beside = Beside g;
     good = λ b. b .good;
-    turn = λ {since} {kept} {s} x b. record { good = check-next f s x (b .good); fed = fed-next s x ∙ b .fed; made = λ e. ap (λ (c : CascadeRecord). next f c x) (b .made e) };
+    turn = λ {since} {kept} {s} x b. record {
+      good = check-next f s x (b .good);
+      fed = fed-next s x ∙ b .fed;
+      made = λ e. ap (λ (c : CascadeRecord). next f c x) (b .made e);
+    };
     clear = λ {since} {kept} {s} b. record { good = check-cleared s (b .good); fed = fed-cleared s ∙ b .fed; made = λ e. cleared-idle s ∙ ap idle (b .fed) };
     same = λ {since} {kept} {s} x b e.
         ap (λ (c : CascadeRecord). answer (cascade f) c x) (b .made (since-reset since e)) ∙ ap₂ marked (mark-after g kept x) (value-after g kept x);

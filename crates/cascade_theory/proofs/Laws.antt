@@ -6,7 +6,8 @@ use Rattle.runs.specs.Runs.{marked, answer}
 use Rattle.cascade_theory.specs.Cascade.{CascadeRecord, checkCascade, value, moved, mark, next, cascade}
 
 -- the answer of a step, from a record that has the value and the flag after it
-pub answer-is : (f : Format) (c : CascadeRecord) (x : Float) {y : Float} {c′ : CascadeRecord} (b : Bool) → y ≡ value f c x → c′ ≡ next f c x → c′ .clouded ≡ b → marked b y ≡ answer (cascade f) c x
+pub answer-is : (f : Format) (c : CascadeRecord) (x : Float) {y : Float} {c′ : CascadeRecord} (b : Bool) → y ≡ value f c x → c′ ≡ next f c x → c′ .clouded ≡ b
+    → marked b y ≡ answer (cascade f) c x
 unfolding next
 answer-is f c x {y} {c′} b v n e = ap₂ marked (sym e ∙ ap (λ (k : CascadeRecord). k .clouded) n) v
 

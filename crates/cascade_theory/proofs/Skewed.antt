@@ -24,7 +24,8 @@ not-or true b e = (refl, e)
 not-or false b e = absurd (true≢false e)
 
 module _ (f : Format) (p : FirstOrderRecord) where
-  step-four : (c : FourRecord) (x : Float) → finite x ≡ true → step (cascade f) (ofFour p c) x ≡ record { answer = clear (fourOut f c x); state = ofFour p (fourNext f c x) }
+  step-four : (c : FourRecord) (x : Float) → finite x ≡ true → step (cascade f) (ofFour p c) x
+      ≡ record { answer = clear (fourOut f c x); state = ofFour p (fourNext f c x) }
   unfolding step checkCascade value moved mark next clouding fourOut fourNext
   step-four c x h = rw h
 
@@ -44,11 +45,13 @@ module _ (f : Format) (p : FirstOrderRecord) where
   none-clouded c [] = refl
   none-clouded c (x ∷ xs) = zero-add _ ∙ none-clouded (fourNext f c x) xs
 
-  block-four : (c : FourRecord) (input output : List Float) {r : RanRecord} → 3 ≤ length input → notAllFinite input ≡ false → length input ≤ length output → r ≡ ran f c input output
+  block-four : (c : FourRecord) (input output : List Float) {r : RanRecord} → 3 ≤ length input → notAllFinite input ≡ false → length input ≤ length output → r
+      ≡ ran f c input output
       → record { refusal = 0; clouded = 0; state = ofFour p (r .four); output = r .output } ≡ block (cascade f) (ofFour p c) input output
   unfolding block ran checkCascade
   block-four c input output {r} n h k e =
-      let q : r ≡ record { four = after (four f) c input; done = true; output = written (answers (four f) c input) output } = e ∙ rw (le-leb 3 (length input) n, le-leb (length input) (length output) k) in
+      let q : r ≡ record { four = after (four f) c input; done = true; output = written (answers (four f) c input) output } = e
+      ∙ rw (le-leb 3 (length input) n, le-leb (length input) (length output) k) in
       rw (
         ap (λ (t : RanRecord). t .four) q,
         ap (λ (t : RanRecord). t .output) q,
@@ -59,7 +62,8 @@ module _ (f : Format) (p : FirstOrderRecord) where
       )
 
 -- whatever record has these sections
-pub block-skewed : (f : Format) (c : FourRecord) {ss : List SectionRecord} {n : ℕ} {p : FirstOrderRecord} {b d : Bool} (input output : List Float) {r : RanRecord} → listed c ≡ ss
+pub block-skewed : (f : Format) (c : FourRecord) {ss : List SectionRecord} {n : ℕ} {p : FirstOrderRecord} {b d : Bool} (input output : List Float)
+    {r : RanRecord} → listed c ≡ ss
     → Skewable (record { sections = ss; count = n; first = p; hasFirst = b; clouded = d }) input → length input ≤ length output → r ≡ ran f c input output
     → record { refusal = 0; clouded = 0; state = record { sections = listed (r .four); count = n; first = p; hasFirst = b; clouded = d }; output = r .output }
     ≡ block (cascade f) (record { sections = ss; count = n; first = p; hasFirst = b; clouded = d }) input output

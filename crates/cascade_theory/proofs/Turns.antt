@@ -16,13 +16,16 @@ pub record Turned (f : Format) (used : Bool) (s : SectionRecord) (x y : Float) (
   pub out : y ≡ cond used (sectionOut f s x) x
   pub next : t ≡ cond used (sectionNext f s x) s
 
-passed : (f : Format) (a b c d a′ b′ c′ d′ : SectionRecord) (n : ℕ) (x y₀ y₁ y₂ y₃ : Float) → Turned f (ltb 0 n) a x y₀ a′ → Turned f (ltb 1 n) b y₀ y₁ b′ → Turned f (ltb 2 n) c y₁ y₂ c′
+passed : (f : Format) (a b c d a′ b′ c′ d′ : SectionRecord) (n : ℕ) (x y₀ y₁ y₂ y₃ : Float) → Turned f (ltb 0 n) a x y₀ a′ → Turned f (ltb 1 n) b y₀ y₁ b′
+    → Turned f (ltb 2 n) c y₁ y₂ c′
     → Turned f (ltb 3 n) d y₂ y₃ d′ → (y₃ ≡ sectionsOut f n (a ∷ b ∷ c ∷ d ∷ []) x) × (a′ ∷ b′ ∷ c′ ∷ d′ ∷ [] ≡ sectionsNext f n (a ∷ b ∷ c ∷ d ∷ []) x)
 passed f a b c d a′ b′ c′ d′ zero x y₀ y₁ y₂ y₃ p q r s = (rw (s .out, r .out, q .out, p .out), rw (s .next, r .next, q .next, p .next))
 passed f a b c d a′ b′ c′ d′ (suc zero) x y₀ y₁ y₂ y₃ p q r s = (rw (s .out, r .out, q .out, p .out), rw (s .next, r .next, q .next, p .next))
 passed f a b c d a′ b′ c′ d′ (suc (suc zero)) x y₀ y₁ y₂ y₃ p q r s = (rw (s .out, r .out, q .out, p .out), rw (s .next, r .next, q .next, p .next, p .out))
-passed f a b c d a′ b′ c′ d′ (suc (suc (suc zero))) x y₀ y₁ y₂ y₃ p q r s = (rw (s .out, r .out, q .out, p .out), rw (s .next, r .next, q .next, p .next, q .out, p .out))
-passed f a b c d a′ b′ c′ d′ (suc (suc (suc (suc zero)))) x y₀ y₁ y₂ y₃ p q r s = (rw (s .out, r .out, q .out, p .out), rw (s .next, r .next, q .next, p .next, r .out, q .out, p .out))
+passed f a b c d a′ b′ c′ d′ (suc (suc (suc zero))) x y₀ y₁ y₂ y₃ p q
+    r s = (rw (s .out, r .out, q .out, p .out), rw (s .next, r .next, q .next, p .next, q .out, p .out))
+passed f a b c d a′ b′ c′ d′ (suc (suc (suc (suc zero)))) x y₀ y₁ y₂ y₃ p q
+    r s = (rw (s .out, r .out, q .out, p .out), rw (s .next, r .next, q .next, p .next, r .out, q .out, p .out))
 passed f a b c d a′ b′ c′ d′ (suc (suc (suc (suc (suc n))))) x y₀ y₁ y₂ y₃ p q r s =
     let t₀ = lt-ltb 0 (suc (suc (suc (suc (suc n))))) (omega arith) in
     let t₁ = lt-ltb 1 (suc (suc (suc (suc (suc n))))) (omega arith) in
@@ -31,7 +34,8 @@ passed f a b c d a′ b′ c′ d′ (suc (suc (suc (suc (suc n))))) x y₀ y₁
     (rw (s .out, t₃, r .out, t₂, q .out, t₁, p .out, t₀), rw (s .next, t₃, r .next, t₂, q .next, t₁, p .next, t₀, r .out, t₂, q .out, t₁, p .out, t₀))
 
 -- a list of four, place by place
-pub four-places : {A B : Type 0} (view : A → B) (ss : List A) (u : A) → length ss ≡ 4 → view (getD ss 0 u) ∷ view (getD ss 1 u) ∷ view (getD ss 2 u) ∷ view (getD ss 3 u) ∷ [] ≡ map view ss
+pub four-places : {A B : Type 0} (view : A → B) (ss : List A) (u : A) → length ss ≡ 4
+    → view (getD ss 0 u) ∷ view (getD ss 1 u) ∷ view (getD ss 2 u) ∷ view (getD ss 3 u) ∷ [] ≡ map view ss
 four-places view [] u l = absurd (omega arith)
 four-places view (s₀ ∷ []) u l = absurd (omega arith)
 four-places view (s₀ ∷ s₁ ∷ []) u l = absurd (omega arith)
@@ -40,8 +44,10 @@ four-places view (s₀ ∷ s₁ ∷ s₂ ∷ s₃ ∷ []) u l = refl
 four-places view (s₀ ∷ s₁ ∷ s₂ ∷ s₃ ∷ s₄ ∷ ss) u l = absurd (omega arith)
 
 -- whatever record the code has for a section
-pub four-turns : (f : Format) {A : Type 0} (view : A → SectionRecord) (ss : List A) (u : A) (n : ℕ) (x : Float) {y₀ y₁ y₂ y₃ : Float} {a b c d : A} → length ss ≡ 4
-    → Turned f (ltb 0 n) (view (getD ss 0 u)) x y₀ (view a) → Turned f (ltb 1 n) (view (getD ss 1 u)) y₀ y₁ (view b) → Turned f (ltb 2 n) (view (getD ss 2 u)) y₁ y₂ (view c)
+pub four-turns : (f : Format) {A : Type 0} (view : A → SectionRecord) (ss : List A) (u : A) (n : ℕ) (x : Float) {y₀ y₁ y₂ y₃ : Float} {a b c d : A} → length ss
+    ≡ 4
+    → Turned f (ltb 0 n) (view (getD ss 0 u)) x y₀ (view a) → Turned f (ltb 1 n) (view (getD ss 1 u)) y₀ y₁ (view b)
+    → Turned f (ltb 2 n) (view (getD ss 2 u)) y₁ y₂ (view c)
     → Turned f (ltb 3 n) (view (getD ss 3 u)) y₂ y₃ (view d)
     → (y₃ ≡ sectionsOut f n (map view ss) x) × (map view (a ∷ b ∷ c ∷ d ∷ []) ≡ sectionsNext f n (map view ss) x)
 four-turns f view ss u n x {y₀} {y₁} {y₂} {y₃} {a} {b} {c} {d} l p q r s =

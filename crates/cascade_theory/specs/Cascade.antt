@@ -21,7 +21,13 @@ pub record CascadeRecord : Type 0 where
   pub clouded : Bool
 
 abbrev pub blankCascade : CascadeRecord
-blankCascade = record { sections = blankSection ∷ blankSection ∷ blankSection ∷ blankSection ∷ []; count = 0; first = blankFirst; hasFirst = false; clouded = false }
+blankCascade = record {
+  sections = blankSection ∷ blankSection ∷ blankSection ∷ blankSection ∷ [];
+  count = 0;
+  first = blankFirst;
+  hasFirst = false;
+  clouded = false;
+}
 
 -- 11 is given where there are more than 4 sections, or none and no first-order part
 unfoldable pub checkCascade : CascadeRecord → Bool
@@ -29,7 +35,13 @@ checkCascade c = leb (c .count) maxSections && (ltb 0 (c .count) || c .hasFirst)
 
 -- reset sets all carried values to +0 and clears the cloud flag
 unfoldable pub clearedCascade : CascadeRecord → CascadeRecord
-clearedCascade c = record { sections = map clearedSection (c .sections); count = c .count; first = clearedFirst (c .first); hasFirst = c .hasFirst; clouded = false }
+clearedCascade c = record {
+  sections = map clearedSection (c .sections);
+  count = c .count;
+  first = clearedFirst (c .first);
+  hasFirst = c .hasFirst;
+  clouded = false;
+}
 
 -- the same parts with this cloud flag
 abbrev pub flagged : Bool → CascadeRecord → CascadeRecord

@@ -83,7 +83,12 @@ module _ (f : Format) where
   advanced l x =
       let c = l .four in
       record {
-        four = record { s0 = sectionNext f (c .s0) x; s1 = sectionNext f (c .s1) (l .y0); s2 = sectionNext f (c .s2) (l .y1); s3 = sectionNext f (c .s3) (l .y2) };
+        four = record {
+          s0 = sectionNext f (c .s0) x;
+          s1 = sectionNext f (c .s1) (l .y0);
+          s2 = sectionNext f (c .s2) (l .y1);
+          s3 = sectionNext f (c .s3) (l .y2);
+        };
         y0 = sectionOut f (c .s0) x;
         y1 = sectionOut f (c .s1) (l .y0);
         y2 = sectionOut f (c .s2) (l .y1);

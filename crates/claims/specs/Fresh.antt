@@ -15,7 +15,6 @@ use Rattle.design_cascade.specs.BandPass.{butterworthBp}
 use Rattle.design_fir.specs.Fir.{firLp}
 use Rattle.design_fir.specs.declared.WindowType.{WindowType}
 use Rattle.runs.specs.Refusals.{Accepted}
-use Rattle.fir_theory.specs.Fir.{Made}
 use Rattle.design_cascade.specs.Design.{DesignRecord}
 use Rattle.c_layout.specs.Layout.{cascadeAt, cascadeFits}
 use Rattle.c_calls.specs.Kinds.{tapsAt, tapsFit}
@@ -32,13 +31,16 @@ pub record AcceptedIsFresh : Type 0 where
   pub cascadeReset : (c : CascadeRecord) → reset (cascade binary64) c .refusal ≡ 0 → FreshCascade (reset (cascade binary64) c .state)
   pub firReset : (r : TapsRecord) → reset (fir maxTaps binary64) r .refusal ≡ 0 → FreshTaps (reset (fir maxTaps binary64) r .state)
 
--- ---- through the C library: what an accepted call that makes a filter leaves in the slices fits, and is fresh. Each premise is the call's contract, word for word.
+-- ---- through the C library: what an accepted call that makes a filter leaves in the slices fits, and is fresh. Each premise is the call's contract, word for
+-- word.
 abbrev pub CascadeMade : DesignRecord → Type 0
-CascadeMade d = (numbers numbers′ : List Float) (counts counts′ : List ℕ) → record { refusal = Accepted; numbers = numbers′; counts = counts′ } ≡ designCall d numbers counts
+CascadeMade d = (numbers numbers′ : List Float) (counts counts′ : List ℕ) → record { refusal = Accepted; numbers = numbers′; counts = counts′ }
+    ≡ designCall d numbers counts
     → (cascadeFits numbers′ counts′ ≡ true) × FreshCascade (cascadeAt numbers′ counts′)
 
 abbrev pub TapsMade : (List Float → List Float → List ℕ → TapsStored) → Type 0
-TapsMade call = (taps taps′ samples samples′ : List Float) (counts counts′ : List ℕ) → record { refusal = Accepted; taps = taps′; samples = samples′; counts = counts′ } ≡ call taps samples counts
+TapsMade call = (taps taps′ samples samples′ : List Float) (counts counts′ : List ℕ)
+    → record { refusal = Accepted; taps = taps′; samples = samples′; counts = counts′ } ≡ call taps samples counts
     → (tapsFit taps′ samples′ counts′ ≡ true) × FreshTaps (tapsAt taps′ samples′ counts′)
 
 pub record CMadeIsFresh : Type 0 where

@@ -1,4 +1,5 @@
--- Demand 3 of the calls themselves: lists of calls of the code, each on the record that the call before it returned, and of the C library, each on what the call
+-- Demand 3 of the calls themselves: lists of calls of the code, each on the record that the call before it returned, and of the C library, each on what the
+-- call
 -- before it left in the slices.
 use mathlib.Core.Path.{_≡_}
 use mathlib.Core.List.{List, [], _∷_}
@@ -72,5 +73,6 @@ pub record CCascadeRule : Type 0 where
 pub record CFirRule : Type 0 where
   pub shows : (taps samples : List Float) (counts : List ℕ) (calls : List Call) (outcomes : List Outcome) → CCalls (firKind taps) samples counts calls outcomes
       → outcomes ≡ run (fir maxTaps binary64) (tapsAt taps samples counts) calls
-  pub forgets : (taps samples : List Float) (counts : List ℕ) (calls : List Call) (outcomes : List Outcome) → CCalls (firKind taps) samples counts calls outcomes
+  pub forgets : (taps samples : List Float) (counts : List ℕ) (calls : List Call) (outcomes : List Outcome)
+      → CCalls (firKind taps) samples counts calls outcomes
       → FirForgets maxTaps binary64 (tapsAt taps samples counts) calls outcomes

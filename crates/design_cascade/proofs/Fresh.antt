@@ -57,7 +57,8 @@ upTo-clear g h zero = tt
 upTo-clear g h (suc n) = append-clear (upTo g n) (g n ∷ []) (upTo-clear g h n) (h n, tt)
 
 -- the cascade of a design: its check, by its counts, and its carried values
-fresh : (c : CascadeRecord) → c .count ≤ 4 → (ltb 0 (c .count) || c .hasFirst) ≡ true → AllClear (c .sections) → clearedFirst (c .first) ≡ c .first → c .clouded ≡ false → FreshCascade c
+fresh : (c : CascadeRecord) → c .count ≤ 4 → (ltb 0 (c .count) || c .hasFirst) ≡ true → AllClear (c .sections) → clearedFirst (c .first) ≡ c .first → c .clouded
+    ≡ false → FreshCascade c
 unfolding checkCascade clearedCascade
 fresh c n u a p o =
     let s = all-clear (c .sections) a in
@@ -106,7 +107,8 @@ used n h = go (ltb 0 (n / 2)) refl
 
 prototype-fresh : (p : Prototype) (n : ℕ) → (0 < n) × (n ≤ 8) → FreshCascade (prototypeCascade p n)
 unfolding prototypeCascade
-prototype-fresh p n h = fresh _ (omega (arith, h .1)) (used n (h .0)) (padded-clear 4 _ (upTo-clear (pairOf p n) (pair-clear p n) (n / 2))) (first-clear p n) refl
+prototype-fresh p n h = fresh _ (omega (arith, h .1)) (used n (h .0)) (padded-clear 4 _ (upTo-clear (pairOf p n) (pair-clear p n) (n / 2))) (first-clear p n)
+    refl
 
 pub butterworth-lp-fresh : (n : ℕ) (cutoff rate : Float) → butterworthLp n cutoff rate .refusal ≡ 0 → FreshCascade (butterworthLp n cutoff rate .cascade)
 unfolding butterworthLp

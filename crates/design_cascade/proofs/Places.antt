@@ -50,14 +50,16 @@ module _ (n : ℕ) (bw w0 : Float) where
   pub band-length : (m : ℕ) → length (bpUpTo n bw w0 m) ≡ 2 * m
   unfolding bpUpTo
   band-length zero = refl
-  band-length (suc m) = length-append (bpUpTo n bw w0 m) (bpPairOf n bw w0 m .bq1 ∷ bpPairOf n bw w0 m .bq2 ∷ []) ∙ ap (λ (k : ℕ). k + 2) (band-length m) ∙ (omega arith)
+  band-length (suc m) = length-append (bpUpTo n bw w0 m) (bpPairOf n bw w0 m .bq1 ∷ bpPairOf n bw w0 m .bq2 ∷ []) ∙ ap (λ (k : ℕ). k + 2) (band-length m)
+      ∙ (omega arith)
 
   pub band-none : blankSection ∷ blankSection ∷ blankSection ∷ blankSection ∷ [] ≡ padded 4 (bpUpTo n bw w0 0)
   unfolding bpUpTo
   band-none = no-places
 
   pub band-turn : {A : Type 0} (view : A → SectionRecord) (kept : List A) (m : ℕ) (a b : A) → map view kept ≡ padded 4 (bpUpTo n bw w0 m) → m < 2
-      → view a ≡ bpPairOf n bw w0 m .bq1 → view b ≡ bpPairOf n bw w0 m .bq2 → map view (set (set kept (2 * m) a) (2 * m + 1) b) ≡ padded 4 (bpUpTo n bw w0 (m + 1))
+      → view a ≡ bpPairOf n bw w0 m .bq1 → view b ≡ bpPairOf n bw w0 m .bq2 → map view (set (set kept (2 * m) a) (2 * m + 1) b)
+      ≡ padded 4 (bpUpTo n bw w0 (m + 1))
   band-turn view kept m a b e h u v =
       let xs = bpUpTo n bw w0 m in
       let p = bpPairOf n bw w0 m in

@@ -28,7 +28,8 @@ unfolding firLp
 fir-fresh n cutoff w = go (eqb (validateFir n cutoff) 0) refl
   where
     made : Bool → Made
-    made b = cond b (record { refusal = 0; filter = holding maxTaps (firTaps w n cutoff) (codeOf w) }) (record { refusal = validateFir n cutoff; filter = blankTaps maxTaps })
+    made b = cond b (record { refusal = 0; filter = holding maxTaps (firTaps w n cutoff) (codeOf w) })
+        (record { refusal = validateFir n cutoff; filter = blankTaps maxTaps })
 
     go : (b : Bool) → eqb (validateFir n cutoff) 0 ≡ b → made b .refusal ≡ 0 → FreshTaps (made b .filter)
     go true e r =

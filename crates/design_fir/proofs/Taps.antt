@@ -108,7 +108,8 @@ taps-done w n most cutoff {l} {m} p q =
 
 -- ---- what the design shows where it returns
 module _ (n : ℕ) (cutoff : Float) (w : WindowType) where
-  pub fir-refused : {v : ℕ} {r : TapsRecord} → v ≡ validateFir n cutoff → (v ≡ 0 → ⊥) → r ≡ blankTaps maxTaps → _≡_ {A = Made} (record { refusal = v; filter = r }) (firLp n cutoff w)
+  pub fir-refused : {v : ℕ} {r : TapsRecord} → v ≡ validateFir n cutoff → (v ≡ 0 → ⊥) → r ≡ blankTaps maxTaps
+      → _≡_ {A = Made} (record { refusal = v; filter = r }) (firLp n cutoff w)
   unfolding firLp
   fir-refused {v} {r} e h b = rw (← e, ne-eqb v 0 h, b)
 

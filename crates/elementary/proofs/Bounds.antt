@@ -61,7 +61,8 @@ units-abs f s q k = go (ltb (q * 2 ^ k) (2 ^ (low f + suc (emax f))))
     go false = refl
 
 round-abs : (s : Bool) (a b : ℕ) → absOf (round binary64 s a b) ≡ round binary64 false a b
-round-abs s a b = ap absOf (round-is binary64 s a b) ∙ units-abs binary64 s (closest (a * 2 ^ 1074) (b * 2 ^ (size (a * 2 ^ 1074 / b) - 53))) (size (a * 2 ^ 1074 / b) - 53) ∙ sym (round-is binary64 false a b)
+round-abs s a b = ap absOf (round-is binary64 s a b) ∙ units-abs binary64 s (closest (a * 2 ^ 1074) (b * 2 ^ (size (a * 2 ^ 1074 / b) - 53))) (size
+    (a * 2 ^ 1074 / b) - 53) ∙ sym (round-is binary64 false a b)
 
 round-within : (K : ℕ) (s : Bool) (a b : ℕ) → 0 < b → K ≤ 2 ^ 53 → a ≤ K * b → Within K (round binary64 s a b)
 round-within K s a b B h l =
@@ -99,14 +100,16 @@ unfolding turnable ofBits
 turnable-within x t = within-of-le 128 x (bits 0x4060000000000000) (subst T (sym t) tt) (refl, refl)
 
 pub turns-within : (x : Float) → Within 128 x → Within (2 ^ 52) (x ⊗ bits 0x3FE45F306DC9C883)
-turns-within x h = within-mono 128 (2 ^ 52) (x ⊗ bits 0x3FE45F306DC9C883) (lit≤ tt) (mul-within 128 1 x (bits 0x3FE45F306DC9C883) h (unfold Within ofBits in lit≤ tt) (lit≤ tt))
+turns-within x h = within-mono 128 (2 ^ 52) (x ⊗ bits 0x3FE45F306DC9C883) (lit≤ tt)
+    (mul-within 128 1 x (bits 0x3FE45F306DC9C883) h (unfold Within ofBits in lit≤ tt) (lit≤ tt))
 
 -- ---- exp: k is from -1021 to 1023
 near-bound : (x : Float) (K : ℕ) → closest K 1 ≡ K → Within K x → closest (num x) (den x) ≤ K
 unfolding Within
 near-bound nan K e h = absurd h
 near-bound (inf s) K e h = absurd h
-near-bound (fin s m e) K c h = le-trans (closest-mono (m * up e) (down e) K 1 (down-pos e) (pow-pos 0) (le-trans (le-of-eq (mul-one (m * up e))) h)) (le-of-eq c)
+near-bound (fin s m e) K c h = le-trans (closest-mono (m * up e) (down e) K 1 (down-pos e) (pow-pos 0) (le-trans (le-of-eq (mul-one (m * up e))) h))
+    (le-of-eq c)
 
 scale-small : (s : Bool) (n : ℕ) → n ≤ 1022 → Scale (cond s (negℤ (pos n)) (pos n))
 scale-small true zero h = zero-le

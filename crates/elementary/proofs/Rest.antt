@@ -65,7 +65,8 @@ frac-exact m (negsuc k) small deep =
     let k-le : suc k ≤ 1074 = pow-le-back (suc k) 1074 deep in
     round-exact binary64 false r (2 ^ suc k) r (1074 - suc k) (pow-pos (suc k)) r-lt
     (lt-of-lt-of-le (shl-lt 53 (1074 - suc k) r-lt) (pow-mono (room k)))
-    (ap (λ (z : ℕ). r * 2 ^ z) (sym (back 1074 (suc k) k-le)) ∙ ap (λ (z : ℕ). r * z) (pow-add 2 (1074 - suc k) (suc k)) ∙ sym (mul-assoc r (2 ^ (1074 - suc k)) (2 ^ suc k)))
+    (ap (λ (z : ℕ). r * 2 ^ z) (sym (back 1074 (suc k) k-le)) ∙ ap (λ (z : ℕ). r * z) (pow-add 2 (1074 - suc k) (suc k))
+    ∙ sym (mul-assoc r (2 ^ (1074 - suc k)) (2 ^ suc k)))
   where
     room : (k : ℕ) → 53 + (1074 - suc k) ≤ 2098
     room k = omega arith
@@ -74,7 +75,8 @@ frac-exact m (negsuc k) small deep =
 taken-off : (A w D d b : ℕ) → b ≡ w * d * D → (A * d - b) * D ≡ (A - w * D) * (D * d)
 taken-off A w D d b e =
     ap (λ (z : ℕ). (A * d - z) * D) (e ∙ mul-right-comm w d D)
-    ∙ ap (λ (z : ℕ). z * D) (ap (λ (z : ℕ). z - w * D * d) (mul-comm A d) ∙ ap (λ (z : ℕ). d * A - z) (mul-comm (w * D) d) ∙ sym (mul-sub d A (w * D)) ∙ mul-comm d (A - w * D))
+    ∙ ap (λ (z : ℕ). z * D) (ap (λ (z : ℕ). z - w * D * d) (mul-comm A d) ∙ ap (λ (z : ℕ). d * A - z) (mul-comm (w * D) d) ∙ sym (mul-sub d A (w * D))
+    ∙ mul-comm d (A - w * D))
     ∙ mul-assoc (A - w * D) d D
     ∙ ap (λ (z : ℕ). (A - w * D) * z) (mul-comm d D)
 
@@ -90,9 +92,11 @@ rest-rounds m e (fin false n d) w l v =
     let q : b ≡ w * down d * down e = ap (λ (z : ℕ). z * down e) (sym (mul-one (n * up d)) ∙ v .1) in
     let le : b ≤ a = le-trans (le-of-eq (q ∙ mul-right-comm w (down d) (down e))) (mul-le-mul-right (down d) l) in
     rw (le-ltb a b le)
-    (round-same binary64 false (a - b) (down e * down d) (m * up e - w * down e) (down e) (mul-pos (down-pos e) (down-pos d)) (down-pos e) (taken-off (m * up e) w (down e) (down d) b q))
+    (round-same binary64 false (a - b) (down e * down d) (m * up e - w * down e) (down e) (mul-pos (down-pos e) (down-pos d)) (down-pos e)
+    (taken-off (m * up e) w (down e) (down d) b q))
 
-pub rest-exact : (x : Float) → T (fits binary64 x) → Within (2 ^ 52) x → HasValue (sub binary64 (absOf x) (ofInt binary64 (pos (num x / den x)))) false (num x % den x) (den x)
+pub rest-exact : (x : Float) → T (fits binary64 x) → Within (2 ^ 52) x
+    → HasValue (sub binary64 (absOf x) (ofInt binary64 (pos (num x / den x)))) false (num x % den x) (den x)
 unfolding absOf ofInt
 rest-exact nan f h = unfold Within in absurd h
 rest-exact (inf s) f h = unfold Within in absurd h
@@ -100,7 +104,8 @@ rest-exact (fin s m e) f h =
     let w = m * up e / down e in
     let r : m * up e - w * down e ≡ m * up e % down e = left (m * up e) (w * down e) (m * up e % down e) (div-add-mod' (m * up e) (down e)) in
     subst (λ (z : Float). HasValue z false (m * up e % down e) (down e))
-    (sym (rest-rounds m e (round binary64 false w 1) w (div-mul-le-self (m * up e) (down e)) (round-whole binary64 false w (le-trans (whole-le (fin s m e) h) (lit≤ tt))) ∙ ap (λ (z : ℕ). round binary64 false z (down e)) r))
+    (sym (rest-rounds m e (round binary64 false w 1) w (div-mul-le-self (m * up e) (down e))
+    (round-whole binary64 false w (le-trans (whole-le (fin s m e) h) (lit≤ tt))) ∙ ap (λ (z : ℕ). round binary64 false z (down e)) r))
     (frac-exact m e (fits-digits binary64 s m e f) (fits-deep binary64 s m e f))
   where
     left : (A w r : ℕ) → w + r ≡ A → A - w ≡ r
@@ -116,7 +121,8 @@ half-lt x d r b D B h = go (ltb (r * 2) b) (ltb→lt (r * 2) b) (nltb→le (r * 
     go : (t : Bool) → (T t → r * 2 < b) → (T (not t) → b ≤ r * 2) → ltb (x * 2) d ≡ t
     go true y n =
         lt-ltb (x * 2) d
-        (lt-of-not-le (λ (l : d ≤ x * 2). lt-irrefl (d * b) (lt-of-le-of-lt (mul-le-mul-right b l) (lt-of-le-of-lt (le-of-eq (scaled x d r b h)) (lt-of-lt-of-le (mul-lt-mul-of-pos-right (y tt) D) (le-of-eq (mul-comm b d)))))))
+        (lt-of-not-le (λ (l : d ≤ x * 2). lt-irrefl (d * b) (lt-of-le-of-lt (mul-le-mul-right b l)
+        (lt-of-le-of-lt (le-of-eq (scaled x d r b h)) (lt-of-lt-of-le (mul-lt-mul-of-pos-right (y tt) D) (le-of-eq (mul-comm b d)))))))
     go false y n =
         le-ltb (x * 2) d
         (le-of-mul-le-mul-right (le-trans (le-of-eq (mul-comm d b)) (le-trans (mul-le-mul-right d (n tt)) (le-of-eq (sym (scaled x d r b h))))) B)
@@ -126,7 +132,8 @@ half-eq x d r b D B h = go (eqb (r * 2) b) (eqb→eq (r * 2) b) (λ (e : r * 2 �
   where
     go : (t : Bool) → (T t → r * 2 ≡ b) → (r * 2 ≡ b → T t) → eqb (x * 2) d ≡ t
     go true y n = eq-eqb (x * 2) d (eq-of-mul-eq-mul-right b B (x * 2) d (scaled x d r b h ∙ ap (λ (z : ℕ). z * d) (y tt) ∙ mul-comm b d))
-    go false y n = ne-eqb (x * 2) d (λ (g : x * 2 ≡ d). n (eq-of-mul-eq-mul-right d D (r * 2) b (sym (scaled x d r b h) ∙ ap (λ (z : ℕ). z * b) g ∙ mul-comm d b)))
+    go false y n = ne-eqb (x * 2) d (λ (g : x * 2 ≡ d). n (eq-of-mul-eq-mul-right d D (r * 2) b (sym (scaled x d r b h) ∙ ap (λ (z : ℕ). z * b) g
+        ∙ mul-comm d b)))
 
 below-half : (y : Float) (r b : ℕ) → 0 < b → HasValue y false r b → lt y half ≡ ltb (r * 2) b
 unfolding lt ofBits
@@ -167,7 +174,8 @@ by-rest t a n f h p q =
     let y = sub binary64 (absOf t) (ofInt binary64 (pos (num t / den t))) in
     ap (λ (x : Float). byRest n (sub binary64 x (ofInt binary64 (pos n)))) p
     ∙ ap (λ (k : ℕ). byRest k (sub binary64 (absOf t) (ofInt binary64 (pos k)))) w
-    ∙ rw (below-half y (num t % den t) (den t) (den-pos t) v, at-half y (num t % den t) (den t) (den-pos t) v) (sym (nearest-by (num t / den t) (num t % den t * 2) (den t)))
+    ∙ rw (below-half y (num t % den t) (den t) (den-pos t) v, at-half y (num t % den t) (den t) (den-pos t) v)
+    (sym (nearest-by (num t / den t) (num t % den t * 2) (den t)))
 
 pub whole-small : (t a : Float) (n : ℕ) → Within (2 ^ 52) t → a ≡ absOf t → n ≡ toUnsigned 64 a → n ≤ 2 ^ 52
 whole-small t a n h p q = le-trans (le-of-eq (q ∙ ap (toUnsigned 64) p ∙ trunc-is t h)) (whole-le t h)
@@ -205,5 +213,6 @@ near-pos (fin false m e) h t = refl
 near-pos (fin true m e) h t =
     let l = ltb-false 0 (m * up e * 1 + 0 * down e) t in
     let z : m * up e ≡ 0 = omega arith in
-    let c : closest (m * up e) (down e) ≡ 0 = closest-same (m * up e) (down e) 0 1 (down-pos e) (pow-pos 0) (mul-one (m * up e) ∙ z ∙ sym (zero-mul (down e))) in
+    let c : closest (m * up e) (down e) ≡ 0 = closest-same (m * up e) (down e) 0 1 (down-pos e) (pow-pos 0)
+    (mul-one (m * up e) ∙ z ∙ sym (zero-mul (down e))) in
     ap (λ (n : ℕ). negℤ (pos n)) c ∙ sym (ap pos c)

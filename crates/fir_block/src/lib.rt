@@ -136,8 +136,10 @@ fn pass_all(
     from: usize,
     output: &mut [f64],
 ) -> usize
-    requires { ⌜ (1 ≤ n) × (n ≤ maxTaps) × (length (now taps) ≡ maxTaps) × (length (now samples) ≡ maxTaps) × (from ≤ length (now input)) × (length (now input) ≤ length (now output)) ⌝ }
-    ensures { λ r. ⌜ FullRun (now (taps .entry)) (now (samples .entry)) n (now (input .entry)) from (now (output .entry)) r (now (samples .exit)) (now (output .exit)) ⌝ }
+    requires { ⌜ (1 ≤ n) × (n ≤ maxTaps) × (length (now taps) ≡ maxTaps) × (length (now samples) ≡ maxTaps) × (from ≤ length (now input))
+        × (length (now input) ≤ length (now output)) ⌝ }
+    ensures { λ r. ⌜ FullRun (now (taps .entry)) (now (samples .entry)) n (now (input .entry)) from (now (output .entry)) r (now (samples .exit))
+        (now (output .exit)) ⌝ }
 {
     let m = input.len() - from;
     let few = if m < n { m } else { n };
@@ -161,7 +163,8 @@ fn pass_some(
     k: usize,
     output: &mut [f64],
 ) -> PassResult
-    requires { ⌜ (fits maxTaps (lentTaps (now taps) (now samples) n held window) ≡ true) × (checkTaps maxTaps (lentTaps (now taps) (now samples) n held window) ≡ true)
+    requires { ⌜ (fits maxTaps (lentTaps (now taps) (now samples) n held window) ≡ true)
+        × (checkTaps maxTaps (lentTaps (now taps) (now samples) n held window) ≡ true)
         × (k ≤ length (now input)) × (length (now input) ≤ length (now output)) ⌝ }
     ensures { λ r. ⌜ ranBlock (r .clouded) (lentTaps (now (taps .entry)) (now (samples .exit)) n (r .held) window) (now (output .exit))
         ≡ block (fir maxTaps binary64) (lentTaps (now (taps .entry)) (now (samples .entry)) n held window) (take k (now (input .entry))) (now (output .entry)) ⌝ }
@@ -193,8 +196,14 @@ pub fn block(
     input: &[f64],
     output: &mut [f64],
 ) -> BlockResult
-    ensures { λ r. ⌜ record { refusal = r .refusal; clouded = r .clouded; state = lentTaps (now (taps .entry)) (now (samples .exit)) n (r .held) window; output = now (output .exit) }
-        ≡ lentBlock (fir maxTaps binary64) (fits maxTaps) (lentTaps (now (taps .entry)) (now (samples .entry)) n held window) (now (input .entry)) (now (output .entry)) ⌝ }
+    ensures { λ r. ⌜ record {
+      refusal = r .refusal;
+      clouded = r .clouded;
+      state = lentTaps (now (taps .entry)) (now (samples .exit)) n (r .held) window;
+      output = now (output .exit);
+    }
+        ≡ lentBlock (fir maxTaps binary64) (fits maxTaps) (lentTaps (now (taps .entry)) (now (samples .entry)) n held window) (now (input .entry))
+        (now (output .entry)) ⌝ }
 {
     let refusal = fir_step::refusal_of(taps, samples, n, held, window);
     if refusal != 0 {

@@ -24,7 +24,8 @@ pub record Backing (x : List Float) (last n : ℕ) (to₀ to : List Float) (i : 
 pub back-start : (x : List Float) (last n : ℕ) (to : List Float) → Backing x last n to to 0
 back-start x last n to = record { within = omega arith; same = refl; rest = rw (sub-zero, sub-zero) }
 
-pub back-turn : {x : List Float} (last n : ℕ) {to₀ to : List Float} (i : ℕ) → i < n → n ≤ length to₀ → Backing x last n to₀ to i → Backing x last n to₀ (set to i (getD x (last - i) nan)) (i + 1)
+pub back-turn : {x : List Float} (last n : ℕ) {to₀ to : List Float} (i : ℕ) → i < n → n ≤ length to₀ → Backing x last n to₀ to i
+    → Backing x last n to₀ (set to i (getD x (last - i) nan)) (i + 1)
 unfolding backFrom
 back-turn {x} last n {to₀} {to} i h k p =
     let v = getD x (last - i) nan in
@@ -80,7 +81,8 @@ age-in n age x = go (finite x)
     go true = omega arith
     go false = omega arith
 
-pub count-turn : {n age₀ : ℕ} {input : List Float} {from : ℕ} (clouded age i : ℕ) {after count : ℕ} → i < length input → after ≡ ageAfter n age (getD input i nan) → count ≡ cond (ltb after n) (clouded + 1) clouded
+pub count-turn : {n age₀ : ℕ} {input : List Float} {from : ℕ} (clouded age i : ℕ) {after count : ℕ} → i < length input → after
+    ≡ ageAfter n age (getD input i nan) → count ≡ cond (ltb after n) (clouded + 1) clouded
     → Counting n age₀ input from clouded age i → Counting n age₀ input from count after (i + 1)
 unfolding cloudsFrom
 count-turn {n} {age₀} {input} {from} clouded age i {after} {count} h e g p =
@@ -99,7 +101,8 @@ count-turn {n} {age₀} {input} {from} clouded age i {after} {count} h e g p =
     more true m = omega arith
     more false m = omega arith
 
-pub count-done : {n age₀ : ℕ} {input : List Float} {from : ℕ} (clouded age i : ℕ) → length input ≤ i → Counting n age₀ input from clouded age i → clouded ≡ cloudsFrom n age₀ (drop from input)
+pub count-done : {n age₀ : ℕ} {input : List Float} {from : ℕ} (clouded age i : ℕ) → length input ≤ i → Counting n age₀ input from clouded age i → clouded
+    ≡ cloudsFrom n age₀ (drop from input)
 unfolding cloudsFrom
 count-done {n} {age₀} {input} {from} clouded age i h p = sym (add-zero clouded) ∙ (rw (drop-of-length-le input {i = i} h) at (p .rest))
 
@@ -121,11 +124,14 @@ pub age-most : (n age : ℕ) (x : Float) → finite x ≡ true → n ≤ age →
 age-most n age x e h k = rw e (omega arith)
 
 -- ---- samples copied on: the first j are in place
-pub on-turn : (x : List Float) (from m : ℕ) {to₀ to : List Float} (n j : ℕ) → j < m → from + m ≤ length x → n + m ≤ length to₀ → Putting to₀ n (take m (drop from x)) to j
+pub on-turn : (x : List Float) (from m : ℕ) {to₀ to : List Float} (n j : ℕ) → j < m → from + m ≤ length x → n + m ≤ length to₀
+    → Putting to₀ n (take m (drop from x)) to j
     → Putting to₀ n (take m (drop from x)) (set to (n + j) (getD x (from + j) nan)) (j + 1)
 on-turn x from m {to₀} {to} n j h k l p =
     let e = part-length x from m k in
-    subst (λ (v : Float). Putting to₀ n (take m (drop from x)) (set to (n + j) v) (j + 1)) (part-at x from m j h) (put-turn n j (omega (arith, e)) (omega (arith, e)) p)
+    subst (λ (v : Float). Putting to₀ n (take m (drop from x)) (set to (n + j) v) (j + 1)) (part-at x from m j h)
+    (put-turn n j (omega (arith, e)) (omega (arith, e)) p)
 
-pub on-done : (x : List Float) (from m : ℕ) {to₀ to : List Float} (n j : ℕ) → m ≤ j → from + m ≤ length x → Putting to₀ n (take m (drop from x)) to j → to ≡ spliced to₀ n (take m (drop from x))
+pub on-done : (x : List Float) (from m : ℕ) {to₀ to : List Float} (n j : ℕ) → m ≤ j → from + m ≤ length x → Putting to₀ n (take m (drop from x)) to j → to
+    ≡ spliced to₀ n (take m (drop from x))
 on-done x from m n j h k p = put-done n j (omega (arith, part-length x from m k)) p

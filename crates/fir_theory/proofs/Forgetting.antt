@@ -93,13 +93,15 @@ module _ (capacity : ℕ) (f : Format) (ts : List Float) where
       }
 
   -- where an answer is due the record holds just what the plain filter uses
-  held-is : (since : Bool) (kept : List Float) (r : TapsRecord) → Beside since kept r → since || leb (length ts) (length kept) ≡ true → r .held ≡ min (r .length) (length kept)
+  held-is : (since : Bool) (kept : List Float) (r : TapsRecord) → Beside since kept r → since || leb (length ts) (length kept) ≡ true → r .held
+      ≡ min (r .length) (length kept)
   held-is true kept r b e = b .exact refl
   held-is false kept r b e =
       let z = sizes capacity r (b .good) in
       omega (arith, b .some, b .count, leb-true (length ts) (length kept) e)
 
-  held-used : (since : Bool) (kept : List Float) (r : TapsRecord) → Beside since kept r → since || leb (length ts) (length kept) ≡ true → heldOf r ≡ used ts kept
+  held-used : (since : Bool) (kept : List Float) (r : TapsRecord) → Beside since kept r → since || leb (length ts) (length kept) ≡ true → heldOf r
+      ≡ used ts kept
   unfolding heldOf
   held-used since kept r b e = ap (λ (j : ℕ). take j (r .samples)) (held-is since kept r b e) ∙ b .newest ∙ ap (λ (j : ℕ). take j kept) (b .count)
 

@@ -16,7 +16,15 @@ use Rattle.fir_theory.specs.Fir.{TapsRecord, ReadyMade, checkTaps, clear
 module _ (capacity : ℕ) (f : Format) where
   pub holding-fresh : (ts : List Float) (window : ℕ) → 0 < length ts → length ts ≤ capacity → window ≤ 4 → Fresh (fir capacity f) (holding capacity ts window)
   unfolding checkTaps clearedTaps holding
-  holding-fresh ts window h k w = record { checked = rw (le-leb 1 (length ts) (omega arith), le-leb (length ts) capacity k, le-leb 0 (length ts) (omega arith), le-leb window 4 w); cleared = refl }
+  holding-fresh ts window h k w = record {
+    checked = rw (
+      le-leb 1 (length ts) (omega arith),
+      le-leb (length ts) capacity k,
+      le-leb 0 (length ts) (omega arith),
+      le-leb window 4 w,
+    );
+    cleared = refl;
+  }
 
   pub ready-made-fresh : (ts : List Float) → fromCoeffs capacity ts .refusal ≡ 0 → Fresh (fir capacity f) (fromCoeffs capacity ts .filter)
   unfolding fromCoeffs

@@ -31,7 +31,8 @@ past-turn X k L n x e p (suc i) h = rw suc-sub-suc (p i (omega arith))
 
 module _ (f : Format) (ts : List Float) where
   -- one product more
-  sum-take : (y : Float) (us L : List Float) (n : ℕ) → n < length us → n < length L → sum f y us (take (suc n) L) ≡ add f (sum f y us (take n L)) (mul f (getD us n nan) (getD L n nan))
+  sum-take : (y : Float) (us L : List Float) (n : ℕ) → n < length us → n < length L → sum f y us (take (suc n) L)
+      ≡ add f (sum f y us (take n L)) (mul f (getD us n nan) (getD L n nan))
   unfolding sum
   sum-take y [] L n h k = absurd (omega arith)
   sum-take y (u ∷ us) [] n h k = absurd (omega arith)
@@ -56,7 +57,8 @@ module _ (f : Format) (ts : List Float) where
     told L [] = []
     told L (x ∷ xs) = marked (notAllFinite (take n (x ∷ L))) (sum f plusZero ts (take n (x ∷ L))) ∷ told (x ∷ L) xs
 
-    pub values-at : (X : List Float) (k : ℕ) (L xs : List Float) → n ≤ length ts → n ≤ length L → Past X k L n → ((j : ℕ) → j < length xs → getD X (suc k + j) nan ≡ getD xs j nan)
+    pub values-at : (X : List Float) (k : ℕ) (L xs : List Float) → n ≤ length ts → n ≤ length L → Past X k L n
+        → ((j : ℕ) → j < length xs → getD X (suc k + j) nan ≡ getD xs j nan)
         → sumsFrom f ts n X (suc k) (length xs) ≡ values L xs
     unfolding sumsFrom values
     values-at X k L [] h l p q = refl
@@ -102,7 +104,8 @@ module _ (capacity : ℕ) (f : Format) (ts : List Float) (n : ℕ) where
   unfolding heldOf
   held-next {L} {r} x p = ap (λ (z : ℕ). take z (next r x .samples)) (full-turn x p .held) ∙ newest-next x p
 
-  answer-full : {L : List Float} {r : TapsRecord} (x : Float) → Full L r → answer (fir capacity f) r x ≡ marked (notAllFinite (take n (x ∷ L))) (sum f plusZero ts (take n (x ∷ L)))
+  answer-full : {L : List Float} {r : TapsRecord} (x : Float) → Full L r → answer (fir capacity f) r x
+      ≡ marked (notAllFinite (take n (x ∷ L))) (sum f plusZero ts (take n (x ∷ L)))
   unfolding value mark clouding
   answer-full x p = ap₂ marked (ap notAllFinite (held-next x p)) (ap₂ (sum f plusZero) (p .taps) (held-next x p))
 
@@ -118,19 +121,22 @@ module _ (capacity : ℕ) (f : Format) (ts : List Float) (n : ℕ) where
   filled-next : (Z : List Float) {L : List Float} {r : TapsRecord} (x : Float) → Full L r → filled Z (next r x) ≡ filled Z r
   unfolding next pushed
   filled-next Z {L} {r} x p =
-      let d : drop n (take n (x ∷ r .samples) ++ drop n (r .samples)) ≡ drop n (r .samples) = drop-at (take n (x ∷ r .samples)) (drop n (r .samples)) n (length-take-le n (x ∷ r .samples) (omega (arith, in-places p))) in
+      let d : drop n (take n (x ∷ r .samples) ++ drop n (r .samples))
+      ≡ drop n (r .samples) = drop-at (take n (x ∷ r .samples)) (drop n (r .samples)) n (length-take-le n (x ∷ r .samples) (omega (arith, in-places p))) in
       let h : min (r .held + 1) (r .length) ≡ r .held = omega (arith, p .held, p .counted) in
       rw (h, p .counted, d)
 
   pub after-full : {L : List Float} {r : TapsRecord} (xs : List Float) → Full L r → after (fir capacity f) r xs ≡ filled (reverseAux xs L) r
   unfolding after
   after-full {L} {r} [] p =
-      let e : r .samples ≡ take n L ++ drop n (r .samples) = sym (take-append-drop n (r .samples)) ∙ ap (λ (l : List Float). l ++ drop n (r .samples)) (p .newest) in
+      let e : r .samples ≡ take n L ++ drop n (r .samples) = sym (take-append-drop n (r .samples))
+      ∙ ap (λ (l : List Float). l ++ drop n (r .samples)) (p .newest) in
       λ i. record { taps = r .taps; samples = e i; length = r .length; held = r .held; window = r .window }
   after-full {L} {r} (x ∷ xs) p = after-cons (fir capacity f) r x xs (p .good) ∙ after-full xs (full-turn x p) ∙ filled-next (reverseAux xs (x ∷ L)) x p
 
 -- ---- the places of a block's output
-pub written-told : (f : Format) (ts : List Float) (n : ℕ) (L xs output : List Float) → length xs ≤ length output → written (told f ts n L xs) output ≡ values f ts n L xs ++ drop (length xs) output
+pub written-told : (f : Format) (ts : List Float) (n : ℕ) (L xs output : List Float) → length xs ≤ length output → written (told f ts n L xs) output
+    ≡ values f ts n L xs ++ drop (length xs) output
 unfolding written told values
 written-told f ts n L [] output h = refl
 written-told f ts n L (x ∷ xs) [] h = absurd (omega arith)
@@ -178,12 +184,14 @@ is-clouded : (b : Bool) (v : Float) → isClouded (marked b v) ≡ b
 is-clouded true v = refl
 is-clouded false v = refl
 
-pub count-told : (f : Format) (ts : List Float) (n : ℕ) (L xs : List Float) → n ≤ length L → cloudedIn (told f ts n L xs) ≡ cloudsFrom n (min (finiteRun L) n) xs
+pub count-told : (f : Format) (ts : List Float) (n : ℕ) (L xs : List Float) → n ≤ length L → cloudedIn (told f ts n L xs)
+    ≡ cloudsFrom n (min (finiteRun L) n) xs
 unfolding cloudedIn told cloudsFrom
 count-told f ts n L [] h = refl
 count-told f ts n L (x ∷ xs) h =
     let e : isClouded (marked (notAllFinite (take n (x ∷ L))) (sum f plusZero ts (take n (x ∷ L)))) ≡ ltb (ageAfter n (min (finiteRun L) n) x) n =
-    is-clouded (notAllFinite (take n (x ∷ L))) (sum f plusZero ts (take n (x ∷ L))) ∙ run-finite n (x ∷ L) (omega arith) ∙ capped-ltb (finiteRun (x ∷ L)) n ∙ ap (λ (z : ℕ). ltb z n) (age-is n L x) in
+    is-clouded (notAllFinite (take n (x ∷ L))) (sum f plusZero ts (take n (x ∷ L))) ∙ run-finite n (x ∷ L) (omega arith) ∙ capped-ltb (finiteRun (x ∷ L)) n
+    ∙ ap (λ (z : ℕ). ltb z n) (age-is n L x) in
     ap₂ (λ (b : Bool) (z : ℕ). cond b 1 0 + z) e (count-told f ts n (x ∷ L) xs (omega arith) ∙ ap (λ (z : ℕ). cloudsFrom n z xs) (age-is n L x))
 
 -- ---- n samples backward are the newest n of the history
@@ -196,7 +204,8 @@ back-past X k (x ∷ L) (suc n) h p =
     (back-past X (k - 1) L n (omega arith) (λ i g. ap (λ (z : ℕ). getD X z nan) (omega arith) ∙ p (suc i) (omega arith)))
 
 -- the history after samples, at the place of the last of them
-pub past-after : (X : List Float) (k : ℕ) (L : List Float) (n : ℕ) (xs : List Float) → Past X k L n → ((j : ℕ) → j < length xs → getD X (suc k + j) nan ≡ getD xs j nan)
+pub past-after : (X : List Float) (k : ℕ) (L : List Float) (n : ℕ) (xs : List Float) → Past X k L n
+    → ((j : ℕ) → j < length xs → getD X (suc k + j) nan ≡ getD xs j nan)
     → Past X (k + length xs) (reverseAux xs L) n
 past-after X k L n [] p q = subst (λ (z : ℕ). Past X z L n) (sym (add-zero k)) p
 past-after X k L n (x ∷ xs) p q =

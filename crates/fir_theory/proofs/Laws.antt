@@ -1,14 +1,14 @@
 -- Loops over taps and samples, the check, and what the functions return.
-use mathlib.Core.Path.{_≡_, refl, ap, ap₂, sym, _∙_}
+use mathlib.Core.Path.{_≡_, refl, ap₂, sym, _∙_}
 use mathlib.Core.Bool.{Bool, true, false, not, _&&_, _||_, cond, true≢false, false≢true, Bool·beq}
-use mathlib.Core.List.{List, [], _∷_, _++_, append-assoc, append-nil}
+use mathlib.Core.List.{List, [], _∷_}
 use Prim.Native.Nat.{ℕ, zero, suc, _+_, _-_, _<_, _≤_, min}
 use native.Mathlib.Numerals.{add-one}
 use native.Mathlib.Nat.{sub-zero, zero-sub, suc-sub-suc}
 use native.Mathlib.Omega.{arith}
 use lib.Dec.{leb, eqb}
 use lib.ListN.{length, take, drop, getD, set, length-take, length-set, getD-replicate, length-append, length-drop, length-replicate, drop-of-length-le, replicate}
-use lib.Seq.{drop-cons, take-suc, set-at, getD-at, length-take-le, getD-take, take-length, take-append-le, take-take, take-all}
+use lib.Seq.{drop-cons, set-at, getD-at, length-take-le, getD-take, take-length, take-append-le, take-take}
 use lib.Ieee.{Float, nan, inf, fin, unlike, Format, add, mul}
 use lib.Ieee.Scale.{finite}
 use borrow.Author.Tests.{leb-true, le-leb, lt-ltb, le-ltb, eq-eqb, ne-eqb, eqb-true}
@@ -109,7 +109,8 @@ mul-finite f (fin s m d) nan e = absurd (false≢true e)
 mul-finite f (fin s m d) (inf t) e = absurd (neither (eqb m 0) nan (inf (unlike s t)) refl refl e)
 mul-finite f (fin s m d) (fin t n g) e = refl
 
-sum-finite : (f : Format) (y : Float) (ts xs : List Float) → length xs ≤ length ts → finite (sum f y ts xs) ≡ true → (finite y ≡ true) × (notAllFinite xs ≡ false)
+sum-finite : (f : Format) (y : Float) (ts xs : List Float) → length xs ≤ length ts → finite (sum f y ts xs) ≡ true → (finite y ≡ true)
+    × (notAllFinite xs ≡ false)
 unfolding sum notAllFinite
 sum-finite f y ts [] h e = (rw (sum-none f ts y) at e, refl)
 sum-finite f y [] (x ∷ xs) h e = absurd (omega arith)
@@ -127,7 +128,8 @@ finite-clear f y ts s n h k e g = sym (sum-finite f plusZero ts (take n s) (simp
 abbrev pub Looking : List Float → ℕ → Type 0
 Looking xs i = notAllFinite (drop i xs) ≡ notAllFinite xs
 
-look-more : (s : List Float) (n i : ℕ) → i < n → n ≤ length s → notAllFinite (drop i (take n s)) ≡ not (finite (getD s i nan)) || notAllFinite (drop (suc i) (take n s))
+look-more : (s : List Float) (n i : ℕ) → i < n → n ≤ length s → notAllFinite (drop i (take n s))
+    ≡ not (finite (getD s i nan)) || notAllFinite (drop (suc i) (take n s))
 unfolding notAllFinite
 look-more s n i h k =
     let l : i < length (take n s) = simp length-take (omega arith) in
@@ -173,7 +175,8 @@ checked capacity r z w = rw (le-leb 1 (r .length) (z .some), le-leb (r .length) 
 window-in : (capacity : ℕ) (r : TapsRecord) → checkTaps capacity r ≡ true → leb (r .window) ReadyMade ≡ true
 unfolding checkTaps
 window-in capacity r h =
-    both (leb (r .held) (r .length)) (leb (r .window) ReadyMade) (both (leb 1 (r .length) && leb (r .length) capacity) (leb (r .held) (r .length) && leb (r .window) ReadyMade) h .1) .1
+    both (leb (r .held) (r .length)) (leb (r .window) ReadyMade)
+    (both (leb 1 (r .length) && leb (r .length) capacity) (leb (r .held) (r .length) && leb (r .window) ReadyMade) h .1) .1
 
 -- a sample leaves the record good
 pub check-next : (capacity : ℕ) (r : TapsRecord) (x : Float) → checkTaps capacity r ≡ true → checkTaps capacity (next r x) ≡ true
@@ -192,7 +195,8 @@ check-cleared capacity r h =
 -- ---- one sample taken
 pub passed : (f : Format) (r : TapsRecord) (x : Float) {out : Float} {m : Bool} {s : List Float} {h : ℕ}
     → s ≡ pushed (r .length) x (r .samples) → h ≡ min (r .held + 1) (r .length) → out ≡ sum f plusZero (r .taps) (take h s) → m ≡ clouding (r .taps) (take h s)
-    → (out ≡ value f r x) × (m ≡ mark r x) × (_≡_ {A = TapsRecord} (record { taps = r .taps; samples = s; length = r .length; held = h; window = r .window }) (next r x))
+    → (out ≡ value f r x) × (m ≡ mark r x) × (_≡_ {A = TapsRecord} (record { taps = r .taps; samples = s; length = r .length; held = h; window = r .window })
+    (next r x))
 unfolding next heldOf value mark
 passed f r x es eh eo em = (rw (eo, es, eh), rw (em, es, eh), rw (es, eh))
 
@@ -212,7 +216,8 @@ pub lengths-fit : (capacity : ℕ) (r : TapsRecord) → length (r .taps) ≡ cap
 unfolding fits
 lengths-fit capacity r h k = rw (eq-eqb (length (r .taps)) capacity h, eq-eqb (length (r .samples)) capacity k)
 
-pub rooms : (capacity : ℕ) (r : TapsRecord) → fits capacity r ≡ true → checkTaps capacity r ≡ true → (r .length ≤ length (r .taps)) × (r .length ≤ length (r .samples)) × (r .held ≤ r .length)
+pub rooms : (capacity : ℕ) (r : TapsRecord) → fits capacity r ≡ true → checkTaps capacity r ≡ true → (r .length ≤ length (r .taps))
+    × (r .length ≤ length (r .samples)) × (r .held ≤ r .length)
 rooms capacity r h k = let l = fits-lengths capacity r h in
     let z = sizes capacity r k in
     (omega (arith, l .0, z), omega (arith, l .1, z), z .few)
@@ -227,13 +232,16 @@ fits-next capacity r x h k =
 
 module _ (f : Format) (capacity : ℕ) (r : TapsRecord) (fit : fits capacity r ≡ true) (good : checkTaps capacity r ≡ true) where
   pub update-is : (x : Float) {s : List Float} {h : ℕ} {y : Float} {m : Bool} (b : Bool)
-      → (s ≡ pushed (r .length) x (r .samples)) × (h ≡ min (r .held + 1) (r .length)) × (y ≡ sum f plusZero (r .taps) (take h s)) × (m ≡ clouding (r .taps) (take h s)) → m ≡ b
-      → _≡_ {A = Step TapsRecord} (record { answer = marked b y; state = lentTaps (r .taps) s (r .length) h (r .window) }) (lentStep (fir capacity f) (fits capacity) r x)
+      → (s ≡ pushed (r .length) x (r .samples)) × (h ≡ min (r .held + 1) (r .length)) × (y ≡ sum f plusZero (r .taps) (take h s))
+      × (m ≡ clouding (r .taps) (take h s)) → m ≡ b
+      → _≡_ {A = Step TapsRecord} (record { answer = marked b y; state = lentTaps (r .taps) s (r .length) h (r .window) })
+      (lentStep (fir capacity f) (fits capacity) r x)
   update-is x b e k = let p = passed f r x (e .0) (e .1) (e .2) (e .3) in
       step-answered (fir capacity f) r x good (answer-is f capacity r x b (p .0) (p .1) k) (p .2) ∙ sym (lent-step (fir capacity f) (fits capacity) r x fit)
 
   pub reset-is : {s : List Float} → s ≡ replicate (length (r .samples)) plusZero
-      → _≡_ {A = Reset TapsRecord} (record { refusal = Accepted; state = lentTaps (r .taps) s (r .length) 0 (r .window) }) (lentReset (fir capacity f) (fits capacity) r)
+      → _≡_ {A = Reset TapsRecord} (record { refusal = Accepted; state = lentTaps (r .taps) s (r .length) 0 (r .window) })
+      (lentReset (fir capacity f) (fits capacity) r)
   unfolding clearedTaps
   reset-is e = reset-done (fir capacity f) r good (rw (e, fits-lengths capacity r fit .1)) ∙ sym (lent-reset (fir capacity f) (fits capacity) r fit)
 
@@ -254,16 +262,19 @@ pub clear-done : (l₀ l : List Float) (i : ℕ) → length l₀ ≤ i → Clear
 clear-done l₀ l i h p = copy-done (replicate (length l₀) plusZero) l₀ l i (rw length-replicate h) (length-replicate (length l₀) plusZero) p
 
 module _ (capacity : ℕ) (ts : List Float) where
-  pub made-none : {r : TapsRecord} → length ts < 1 → r ≡ blankTaps capacity → _≡_ {A = Made} (record { refusal = InvalidOrder; filter = r }) (fromCoeffs capacity ts)
+  pub made-none : {r : TapsRecord} → length ts < 1 → r ≡ blankTaps capacity
+      → _≡_ {A = Made} (record { refusal = InvalidOrder; filter = r }) (fromCoeffs capacity ts)
   unfolding fromCoeffs orderRefused
   made-none h e = let z : length ts ≡ 0 = omega arith in
       rw (eq-eqb (length ts) 0 z, e)
 
-  pub made-many : {r : TapsRecord} → 1 ≤ length ts → capacity < length ts → r ≡ blankTaps capacity → _≡_ {A = Made} (record { refusal = InvalidOrder; filter = r }) (fromCoeffs capacity ts)
+  pub made-many : {r : TapsRecord} → 1 ≤ length ts → capacity < length ts → r ≡ blankTaps capacity
+      → _≡_ {A = Made} (record { refusal = InvalidOrder; filter = r }) (fromCoeffs capacity ts)
   unfolding fromCoeffs orderRefused
   made-many h k e = rw (ne-eqb (length ts) 0 (λ z. omega arith), lt-ltb capacity (length ts) k, e)
 
   pub made : {l s : List Float} (i : ℕ) → 1 ≤ length ts → length ts ≤ capacity → i ≡ length ts → s ≡ zeros capacity → Copying ts (zeros capacity) l i
-      → _≡_ {A = Made} (record { refusal = Accepted; filter = record { taps = l; samples = s; length = length ts; held = 0; window = ReadyMade } }) (fromCoeffs capacity ts)
+      → _≡_ {A = Made} (record { refusal = Accepted; filter = record { taps = l; samples = s; length = length ts; held = 0; window = ReadyMade } })
+      (fromCoeffs capacity ts)
   unfolding fromCoeffs orderRefused holding
   made i h k ei es p = rw (ne-eqb (length ts) 0 (λ z. omega arith), le-ltb capacity (length ts) k, p .0, es, ei, take-length, drop-replicate)

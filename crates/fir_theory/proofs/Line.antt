@@ -34,7 +34,8 @@ values-append f ts n L [] b = refl
 values-append f ts n L (x ∷ a) b = ap₂ _∷_ refl (values-append f ts n (x ∷ L) a b)
 
 -- what the two copies make of a list of numbers
-pub line-is : (s input W₀ W₁ W : List Float) (n from m : ℕ) → from + m ≤ length input → W₁ ≡ backFrom n s (n - 1) ++ drop n W₀ → W ≡ spliced W₁ n (take m (drop from input))
+pub line-is : (s input W₀ W₁ W : List Float) (n from m : ℕ) → from + m ≤ length input → W₁ ≡ backFrom n s (n - 1) ++ drop n W₀ → W
+    ≡ spliced W₁ n (take m (drop from input))
     → take (n + m) W ≡ backFrom n s (n - 1) ++ take m (drop from input)
 unfolding spliced
 line-is s input W₀ W₁ W n from m h e g =
@@ -43,7 +44,8 @@ line-is s input W₀ W₁ W n from m h e g =
     let la : length A ≡ n = back-length n s (n - 1) in
     let ly = part-length input from m h in
     let front : take n W₁ ≡ A = ap (take n) e ∙ take-at A (drop n W₀) n la in
-    let w : W ≡ (A ++ ys) ++ drop (n + length ys) W₁ = g ∙ ap (λ (l : List Float). l ++ (ys ++ drop (n + length ys) W₁)) front ∙ sym (append-assoc A ys (drop (n + length ys) W₁)) in
+    let w : W ≡ (A ++ ys) ++ drop (n + length ys) W₁ = g ∙ ap (λ (l : List Float). l ++ (ys ++ drop (n + length ys) W₁)) front
+    ∙ sym (append-assoc A ys (drop (n + length ys) W₁)) in
     ap (take (n + m)) w ∙ take-at (A ++ ys) (drop (n + length ys) W₁) (n + m) (length-append A ys ∙ ap₂ _+_ la ly)
 
 -- the delay line W: the n held samples, oldest first, and the first e of the samples xs, which stand in the input from a place on
@@ -54,11 +56,13 @@ module _ (f : Format) (ts : List Float) (n : ℕ) (s input W : List Float) (from
 
   old : Past W (n - 1) s n
   old i h =
-      at-line (n - 1 - i) (omega arith) ∙ List·getD-append (backFrom n s (n - 1)) (take e (drop from input)) nan (n - 1 - i) (omega (arith, back-length n s (n - 1)))
+      at-line (n - 1 - i) (omega arith) ∙ List·getD-append (backFrom n s (n - 1)) (take e (drop from input)) nan (n - 1 - i)
+      (omega (arith, back-length n s (n - 1)))
       ∙ back-at n s (n - 1) (n - 1 - i) (omega arith) ∙ ap (λ (z : ℕ). getD s z nan) (omega arith)
 
   new : (j : ℕ) → j < e → getD W (n + j) nan ≡ getD (take e (drop from input)) j nan
-  new j h = at-line (n + j) (omega arith) ∙ ap (λ (z : ℕ). getD (backFrom n s (n - 1) ++ take e (drop from input)) (z + j) nan) (sym (back-length n s (n - 1))) ∙ getD-append-add (backFrom n s (n - 1)) (take e (drop from input)) j nan
+  new j h = at-line (n + j) (omega arith) ∙ ap (λ (z : ℕ). getD (backFrom n s (n - 1) ++ take e (drop from input)) (z + j) nan) (sym (back-length n s (n - 1)))
+      ∙ getD-append-add (backFrom n s (n - 1)) (take e (drop from input)) j nan
 
   few : length (take e (drop from input)) ≡ e
   few = length-take-le e (drop from input) most
@@ -84,7 +88,8 @@ module _ (f : Format) (ts : List Float) (n : ℕ) (s input W : List Float) (from
   pub newest-of-few : e ≡ length (drop from input) → backFrom n W (n - 1 + e) ≡ take n (reverseAux (drop from input) s)
   newest-of-few h =
       let all : take e (drop from input) ≡ drop from input = take-all e (drop from input) (omega arith) in
-      back-past W (n - 1 + e) (reverseAux (take e (drop from input)) s) n (longer (take e (drop from input)) s held) then ∙ ap (λ (l : List Float). take n (reverseAux l s)) all
+      back-past W (n - 1 + e) (reverseAux (take e (drop from input)) s) n (longer (take e (drop from input)) s held) then
+      ∙ ap (λ (l : List Float). take n (reverseAux l s)) all
 
   -- ---- where there are n samples or more: the second stretch looks at the input alone
   module _ (wide : e ≡ n) where
@@ -92,7 +97,8 @@ module _ (f : Format) (ts : List Float) (n : ℕ) (s input W : List Float) (from
     beyond i h =
         let a : from + n - 1 - i ≡ from + (n - 1 - i) = omega arith in
         let b : n + (n - 1 - i) ≡ n - 1 + e - i = omega arith in
-        ap (λ (z : ℕ). getD input z nan) a ∙ sym (getD-drop from input (n - 1 - i) nan) ∙ sym (getD-take e (drop from input) (n - 1 - i) nan (omega arith)) ∙ sym (new (n - 1 - i) (omega arith))
+        ap (λ (z : ℕ). getD input z nan) a ∙ sym (getD-drop from input (n - 1 - i) nan) ∙ sym (getD-take e (drop from input) (n - 1 - i) nan (omega arith))
+        ∙ sym (new (n - 1 - i) (omega arith))
         ∙ ap (λ (z : ℕ). getD W z nan) b ∙ then i h
 
     left : (j : ℕ) → j < length (drop n (drop from input)) → getD input (suc (from + n - 1) + j) nan ≡ getD (drop n (drop from input)) j nan
@@ -100,12 +106,14 @@ module _ (f : Format) (ts : List Float) (n : ℕ) (s input W : List Float) (from
         let a : suc (from + n - 1) + j ≡ from + (n + j) = omega arith in
         ap (λ (z : ℕ). getD input z nan) a ∙ sym (getD-drop from input (n + j) nan) ∙ sym (getD-drop n (drop from input) j nan)
 
-    pub second-stretch : sumsFrom f ts n input (from + e) (length (drop from input) - e) ≡ values f ts n (reverseAux (take e (drop from input)) s) (drop e (drop from input))
+    pub second-stretch : sumsFrom f ts n input (from + e) (length (drop from input) - e)
+        ≡ values f ts n (reverseAux (take e (drop from input)) s) (drop e (drop from input))
     second-stretch =
         let a : from + e ≡ suc (from + n - 1) = omega arith in
         let b : length (drop from input) - e ≡ length (drop n (drop from input)) = omega (arith, length-drop n (drop from input)) in
         ap₂ (λ (k m : ℕ). sumsFrom f ts n input k m) a b
-        ∙ values-at f ts n input (from + n - 1) (reverseAux (take e (drop from input)) s) (drop n (drop from input)) enough (longer (take e (drop from input)) s held) beyond left
+        ∙ values-at f ts n input (from + n - 1) (reverseAux (take e (drop from input)) s) (drop n (drop from input)) enough
+        (longer (take e (drop from input)) s held) beyond left
         ∙ ap (λ (k : ℕ). values f ts n (reverseAux (take e (drop from input)) s) (drop k (drop from input))) (sym wide)
 
     pub newest-of-many : backFrom n input (from + length (drop from input) - 1) ≡ take n (reverseAux (drop from input) s)
@@ -114,20 +122,26 @@ module _ (f : Format) (ts : List Float) (n : ℕ) (s input W : List Float) (from
         let p = past-after input (from + n - 1) L n (drop n (drop from input)) beyond left in
         let a : from + n - 1 + length (drop n (drop from input)) ≡ from + length (drop from input) - 1 = omega (arith, length-drop n (drop from input)) in
         let b : reverseAux (drop n (drop from input)) L ≡ reverseAux (drop from input) s =
-        ap (λ (k : ℕ). reverseAux (drop k (drop from input)) L) (sym wide) ∙ sym (reverse-append (take e (drop from input)) (drop e (drop from input)) s) ∙ ap (λ (l : List Float). reverseAux l s) (take-append-drop e (drop from input)) in
+        ap (λ (k : ℕ). reverseAux (drop k (drop from input)) L) (sym wide) ∙ sym (reverse-append (take e (drop from input)) (drop e (drop from input)) s)
+        ∙ ap (λ (l : List Float). reverseAux l s) (take-append-drop e (drop from input)) in
         back-past input (from + length (drop from input) - 1) (reverseAux (drop from input) s) n (longer (drop from input) s held)
-        (subst (λ (l : List Float). Past input (from + length (drop from input) - 1) l n) b (subst (λ (k : ℕ). Past input k (reverseAux (drop n (drop from input)) L) n) a p))
+        (subst (λ (l : List Float). Past input (from + length (drop from input) - 1) l n) b
+        (subst (λ (k : ℕ). Past input k (reverseAux (drop n (drop from input)) L) n) a p))
 
   -- both stretches are the values
-  pub both-stretches : (ys : List Float) → ys ≡ values f ts n (reverseAux (take e (drop from input)) s) (drop e (drop from input)) → sumsFrom f ts n W n e ++ ys ≡ values f ts n s (drop from input)
+  pub both-stretches : (ys : List Float) → ys ≡ values f ts n (reverseAux (take e (drop from input)) s) (drop e (drop from input)) → sumsFrom f ts n W n e ++ ys
+      ≡ values f ts n s (drop from input)
   both-stretches ys g =
-      ap₂ _++_ first-stretch g ∙ sym (values-append f ts n s (take e (drop from input)) (drop e (drop from input))) ∙ ap (values f ts n s) (take-append-drop e (drop from input))
+      ap₂ _++_ first-stretch g ∙ sym (values-append f ts n s (take e (drop from input)) (drop e (drop from input)))
+      ∙ ap (values f ts n s) (take-append-drop e (drop from input))
 
 -- ---- which of the two the newest are copied from
-pub newest-line : (n : ℕ) (W input : List Float) (m : ℕ) {l : List Float} (r : List Float) → m < n → l ≡ backFrom n W (n + m - 1) ++ r → l ≡ newestOf n W input m ++ r
+pub newest-line : (n : ℕ) (W input : List Float) (m : ℕ) {l : List Float} (r : List Float) → m < n → l ≡ backFrom n W (n + m - 1) ++ r → l
+    ≡ newestOf n W input m ++ r
 unfolding newestOf
 newest-line n W input m r h e = rw (lt-ltb m n h) e
 
-pub newest-input : (n : ℕ) (W input : List Float) (m : ℕ) {l : List Float} (r : List Float) → n ≤ m → l ≡ backFrom n input (length input - 1) ++ r → l ≡ newestOf n W input m ++ r
+pub newest-input : (n : ℕ) (W input : List Float) (m : ℕ) {l : List Float} (r : List Float) → n ≤ m → l ≡ backFrom n input (length input - 1) ++ r → l
+    ≡ newestOf n W input m ++ r
 unfolding newestOf
 newest-input n W input m r h e = rw (le-ltb m n h) e

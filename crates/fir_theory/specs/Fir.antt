@@ -102,4 +102,5 @@ module _ (capacity : ℕ) where
 
   -- ready-made taps
   unfoldable pub fromCoeffs : List Float → Made
-  fromCoeffs ts = cond (orderRefused (length ts) capacity) (record { refusal = InvalidOrder; filter = blankTaps }) (record { refusal = Accepted; filter = holding ts ReadyMade })
+  fromCoeffs ts = cond (orderRefused (length ts) capacity) (record { refusal = InvalidOrder; filter = blankTaps })
+      (record { refusal = Accepted; filter = holding ts ReadyMade })

@@ -18,7 +18,8 @@ use Rattle.ieee.proofs.Fractions.{closest-half, round-nearest}
 -- ---- `round` at zero
 units-zero : (f : Format) (s : Bool) (k : ℕ) → units f s 0 k ≡ fin s 0 (pos 0)
 unfolding units odd
-units-zero f s k = ap (λ (z : ℕ). cond (ltb z (overflow f)) (fin s 0 (pos 0)) (inf s)) (zero-mul (2 ^ k)) ∙ go (ltb 0 (overflow f)) (lt→ltb 0 (overflow f) (pow-pos (low f + suc (emax f))))
+units-zero f s k = ap (λ (z : ℕ). cond (ltb z (overflow f)) (fin s 0 (pos 0)) (inf s)) (zero-mul (2 ^ k))
+    ∙ go (ltb 0 (overflow f)) (lt→ltb 0 (overflow f) (pow-pos (low f + suc (emax f))))
   where
     go : (b : Bool) → T b → cond b (fin s 0 (pos 0)) (inf s) ≡ fin s 0 (pos 0)
     go true t = refl
@@ -36,7 +37,8 @@ round-zero f s c C =
     let k = drop (prec f) (0 * 2 ^ low f) c in
     let u = c * 2 ^ k in
     round-is f s 0 c
-    ∙ ap (λ (q : ℕ). units f s q k) (is-zero (kept (prec f) (0 * 2 ^ low f) c) u (2 ^ low f) (mul-pos C (pow-pos k)) (closest-half (0 * 2 ^ low f) u (mul-pos C (pow-pos k)) .lo))
+    ∙ ap (λ (q : ℕ). units f s q k) (is-zero (kept (prec f) (0 * 2 ^ low f) c) u (2 ^ low f) (mul-pos C (pow-pos k))
+    (closest-half (0 * 2 ^ low f) u (mul-pos C (pow-pos k)) .lo))
     ∙ units-zero f s k
 
 -- ---- sums
@@ -53,15 +55,27 @@ below-zero : (a b : ℕ) → a + b < 0 → ⊥
 below-zero a b h = omega arith
 
 sum-plus : (f : Format) (a b c : ℕ) → 0 < c → Rounded f (a + b) 0 c false (round f false (a + b) c)
-sum-plus f a b c C = record { plus = λ h. at f false (a + b) (a + b - 0) c (no-loss a b) C; minus = λ h. absurd (below-zero a b h); none = λ e. at-zero f false (a + b) c e C }
+sum-plus f a b c C = record {
+  plus = λ h. at f false (a + b) (a + b - 0) c (no-loss a b) C;
+  minus = λ h. absurd (below-zero a b h);
+  none = λ e. at-zero f false (a + b) c e C;
+}
 
 sum-minus : (f : Format) (a b c : ℕ) → 0 < c → Rounded f 0 (a + b) c true (round f true (a + b) c)
-sum-minus f a b c C = record { plus = λ h. absurd (below-zero a b h); minus = λ h. at f true (a + b) (a + b - 0) c (no-loss a b) C; none = λ e. at-zero f true (a + b) c (sym e) C }
+sum-minus f a b c C = record {
+  plus = λ h. absurd (below-zero a b h);
+  minus = λ h. at f true (a + b) (a + b - 0) c (no-loss a b) C;
+  none = λ e. at-zero f true (a + b) c (sym e) C;
+}
 
 -- a - b, and b - a
 module _ (f : Format) (a b c : ℕ) (C : 0 < c) where
   less : (t : Bool) → (T t → a < b) → (T (not t) → b ≤ a) → Rounded f (a + 0) (0 + b) c false (cond t (round f true (b - a) c) (round f false (a - b) c))
-  less true h g = record { plus = λ l. absurd (no a b (h tt) l); minus = λ l. at f true (b - a) (0 + b - (a + 0)) c (same a b) C; none = λ e. absurd (no' a b (h tt) e) }
+  less true h g = record {
+    plus = λ l. absurd (no a b (h tt) l);
+    minus = λ l. at f true (b - a) (0 + b - (a + 0)) c (same a b) C;
+    none = λ e. absurd (no' a b (h tt) e);
+  }
     where
       no : (a b : ℕ) → a < b → 0 + b < a + 0 → ⊥
       no a b x y = omega arith
@@ -71,7 +85,11 @@ module _ (f : Format) (a b c : ℕ) (C : 0 < c) where
 
       same : (a b : ℕ) → b - a ≡ 0 + b - (a + 0)
       same a b = omega arith
-  less false h g = record { plus = λ l. at f false (a - b) (a + 0 - (0 + b)) c (same a b) C; minus = λ l. absurd (no a b (g tt) l); none = λ e. at-zero f false (a - b) c (zero-of a b e) C }
+  less false h g = record {
+    plus = λ l. at f false (a - b) (a + 0 - (0 + b)) c (same a b) C;
+    minus = λ l. absurd (no a b (g tt) l);
+    none = λ e. at-zero f false (a - b) c (zero-of a b e) C;
+  }
     where
       no : (a b : ℕ) → b ≤ a → a + 0 < 0 + b → ⊥
       no a b x y = omega arith
@@ -82,8 +100,13 @@ module _ (f : Format) (a b c : ℕ) (C : 0 < c) where
       zero-of : (a b : ℕ) → a + 0 ≡ 0 + b → a - b ≡ 0
       zero-of a b e = omega arith
 
-  more : (t u : Bool) → (T t → a < b) → (T (not t) → b ≤ a) → (T u → b < a) → (T (not u) → a ≤ b) → Rounded f (0 + b) (a + 0) c false (cond t (round f false (b - a) c) (round f u (a - b) c))
-  more true u h g k l = record { plus = λ z. at f false (b - a) (0 + b - (a + 0)) c (same a b) C; minus = λ z. absurd (no a b (h tt) z); none = λ e. absurd (no' a b (h tt) e) }
+  more : (t u : Bool) → (T t → a < b) → (T (not t) → b ≤ a) → (T u → b < a) → (T (not u) → a ≤ b)
+      → Rounded f (0 + b) (a + 0) c false (cond t (round f false (b - a) c) (round f u (a - b) c))
+  more true u h g k l = record {
+    plus = λ z. at f false (b - a) (0 + b - (a + 0)) c (same a b) C;
+    minus = λ z. absurd (no a b (h tt) z);
+    none = λ e. absurd (no' a b (h tt) e);
+  }
     where
       no : (a b : ℕ) → a < b → 0 + b < a + 0 → ⊥
       no a b x y = omega arith
@@ -93,7 +116,11 @@ module _ (f : Format) (a b c : ℕ) (C : 0 < c) where
 
       same : (a b : ℕ) → b - a ≡ 0 + b - (a + 0)
       same a b = omega arith
-  more false true h g k l = record { plus = λ z. absurd (no a b (g tt) z); minus = λ z. at f true (a - b) (a + 0 - (0 + b)) c (same a b) C; none = λ e. absurd (no' a b (k tt) e) }
+  more false true h g k l = record {
+    plus = λ z. absurd (no a b (g tt) z);
+    minus = λ z. at f true (a - b) (a + 0 - (0 + b)) c (same a b) C;
+    none = λ e. absurd (no' a b (k tt) e);
+  }
     where
       no : (a b : ℕ) → b ≤ a → a + 0 < 0 + b → ⊥
       no a b x y = omega arith
@@ -103,7 +130,11 @@ module _ (f : Format) (a b c : ℕ) (C : 0 < c) where
 
       same : (a b : ℕ) → a - b ≡ a + 0 - (0 + b)
       same a b = omega arith
-  more false false h g k l = record { plus = λ z. absurd (no a b (g tt) z); minus = λ z. absurd (no' a b (l tt) z); none = λ e. at-zero f false (a - b) c (zero-of a b e) C }
+  more false false h g k l = record {
+    plus = λ z. absurd (no a b (g tt) z);
+    minus = λ z. absurd (no' a b (l tt) z);
+    none = λ e. at-zero f false (a - b) c (zero-of a b e) C;
+  }
     where
       no : (a b : ℕ) → b ≤ a → a + 0 < 0 + b → ⊥
       no a b x y = omega arith

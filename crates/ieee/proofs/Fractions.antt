@@ -66,7 +66,8 @@ half-of w r u Ordering·eq c l = tie-half w r u (w % 2) refl c
 half-of w r u Ordering·gt c l = up-half w r u c l
 
 pub closest-half : (n u : ℕ) → 0 < u → Half (closest n u) u n
-closest-half n u z = subst (λ (x : ℕ). Half (closest n u) u x) (div-add-mod' n u) (half-of (n / u) (n % u) u (compare (n % u * 2) u) (cmp (n % u * 2) u) (mod-lt n z))
+closest-half n u z = subst (λ (x : ℕ). Half (closest n u) u x) (div-add-mod' n u)
+    (half-of (n / u) (n % u) u (compare (n % u * 2) u) (cmp (n % u * 2) u) (mod-lt n z))
 
 -- ---- the digits that `round` keeps
 
@@ -77,7 +78,8 @@ all-in-use z p P h = omega arith
 full : (p n den : ℕ) → 0 < p → 0 < den → 0 < drop p n den → 2 ^ (p - 1) * (den * 2 ^ drop p n den) ≤ n
 full p n den P D K =
     let k = drop p n den in
-    let a : 2 ^ (p - 1) * 2 ^ k ≤ n / den = le-trans (le-of-eq (sym (pow-add 2 (p - 1) k))) (size-reaches (n / den) (p - 1 + k) (all-in-use (size (n / den)) p P K)) in
+    let a : 2 ^ (p - 1) * 2 ^ k ≤ n / den = le-trans (le-of-eq (sym (pow-add 2 (p - 1) k)))
+    (size-reaches (n / den) (p - 1 + k) (all-in-use (size (n / den)) p P K)) in
     le-trans (le-of-eq (ap (λ (x : ℕ). 2 ^ (p - 1) * x) (mul-comm den (2 ^ k)) ∙ sym (mul-assoc (2 ^ (p - 1)) (2 ^ k) den))) (le-div-iff-mul-le D .0 a)
 
 zero-or-pos : (k : ℕ) → (k ≡ 0) ⊎ (0 < k)
@@ -138,7 +140,8 @@ even-of f r q k v m l e = elim (eq-or-lt-of-le m) [
 twice-n : (a L : ℕ) → a * L + a * L ≡ a * (2 * L)
 twice-n a L = omega arith
 
-module _ (p l O a b q k : ℕ) (B : 0 < b) (half : Half q (b * 2 ^ k) (a * 2 ^ l)) (edge : q ≡ 2 ^ (p - 1) → 0 < k → q * (b * 2 ^ k) ≤ a * 2 ^ l) (Ev : Type 0) (ev : q % 2 ≡ 0 → Ev) where
+module _ (p l O a b q k : ℕ) (B : 0 < b) (half : Half q (b * 2 ^ k) (a * 2 ^ l)) (edge : q ≡ 2 ^ (p - 1) → 0 < k → q * (b * 2 ^ k) ≤ a * 2 ^ l) (Ev : Type 0)
+    (ev : q % 2 ≡ 0 → Ev) where
   pub fraction-close : Close p l O (fraction a b) q k Ev
   fraction-close = record {
     above = λ _ x h. above q (2 ^ k) (a * 2 ^ l) (a * (2 * 2 ^ l)) x b (twice-n a (2 ^ l)) (half .hi) (mul-le-mul-right b h);
@@ -211,7 +214,8 @@ over f a b B h x g =
                 let u' : 2 ^ p * 2 ^ k ≤ q * 2 ^ k = subst (λ (z : ℕ). 2 ^ p * 2 ^ z ≤ q * 2 ^ k) (sym e) u in
                 let m : q ≡ 2 ^ p = le-antisymm (kept-le p n b) (le-of-mul-le-mul-right u' (pow-pos k)) in
                 at-top (2 ^ p) (2 ^ j) n x b (a * (2 * 2 ^ low f)) (twice-n a (2 ^ low f))
-                (subst (λ (z : ℕ). 2 ^ p * (b * 2 ^ z) + 2 ^ p * (b * 2 ^ z) ≤ n + n + b * 2 ^ z) e (subst (λ (z : ℕ). z * (b * 2 ^ k) + z * (b * 2 ^ k) ≤ n + n + b * 2 ^ k) m (closest-half n (b * 2 ^ k) (mul-pos B (pow-pos k)) .lo)))
+                (subst (λ (z : ℕ). 2 ^ p * (b * 2 ^ z) + 2 ^ p * (b * 2 ^ z) ≤ n + n + b * 2 ^ z) e
+                (subst (λ (z : ℕ). z * (b * 2 ^ k) + z * (b * 2 ^ k) ≤ n + n + b * 2 ^ k) m (closest-half n (b * 2 ^ k) (mul-pos B (pow-pos k)) .lo)))
                 (mul-le-mul-right b g)
             | inr l ↦ absurd (not-le-of-lt (lt-of-le-of-lt (mul-le-mul-right (2 ^ k) (kept-le p n b)) (below p k j l)) u)
           ]
@@ -229,7 +233,8 @@ over f a b B h x g =
     past q U n x b N e h g = omega arith
 
     below : (p k j : ℕ) → k < j → 2 ^ p * 2 ^ k < 2 ^ p * 2 ^ j
-    below p k j l = subst (λ (z : ℕ). 2 ^ p * 2 ^ k < z) (mul-comm (2 ^ j) (2 ^ p)) (subst (λ (z : ℕ). z < 2 ^ j * 2 ^ p) (mul-comm (2 ^ k) (2 ^ p)) (mul-lt-mul-of-pos-right (pow-lt l) (pow-pos p)))
+    below p k j l = subst (λ (z : ℕ). 2 ^ p * 2 ^ k < z) (mul-comm (2 ^ j) (2 ^ p))
+        (subst (λ (z : ℕ). z < 2 ^ j * 2 ^ p) (mul-comm (2 ^ k) (2 ^ p)) (mul-lt-mul-of-pos-right (pow-lt l) (pow-pos p)))
 
     mul-le : (c i k : ℕ) → i ≤ k → c * 2 ^ i ≤ c * 2 ^ k
     mul-le c i k l = mul-le-mul-left c (pow-mono l)
@@ -259,7 +264,8 @@ inf-close f s a b B h = record {
 under-suc : (q p : ℕ) → q ≤ 2 ^ p → q < 2 ^ suc p
 under-suc q p h = lt-of-le-of-lt h (pow-lt (le-refl (suc p)))
 
-units-nearest : (f : Format) (s : Bool) (a b : ℕ) → 0 < b → Nearest f (fraction a b) s (units f s (kept (prec f) (a * 2 ^ low f) b) (drop (prec f) (a * 2 ^ low f) b))
+units-nearest : (f : Format) (s : Bool) (a b : ℕ) → 0 < b → Nearest f (fraction a b) s (units f s (kept (prec f) (a * 2 ^ low f) b)
+    (drop (prec f) (a * 2 ^ low f) b))
 unfolding units
 units-nearest f s a b B = go (ltb (q * 2 ^ k) (overflow f)) (ltb→lt (q * 2 ^ k) (overflow f)) (nltb→le (q * 2 ^ k) (overflow f))
   where
@@ -281,7 +287,8 @@ units-nearest f s a b B = go (ltb (q * 2 ^ k) (overflow f)) (ltb→lt (q * 2 ^ k
     edge : q ≡ 2 ^ (prec f - 1) → 0 < k → q * (b * 2 ^ k) ≤ a * 2 ^ low f
     edge z K = le-trans (le-of-eq (ap (λ (x : ℕ). x * (b * 2 ^ k)) z)) (full (prec f) (a * 2 ^ low f) b P B K)
 
-    go : (t : Bool) → (T t → q * 2 ^ k < overflow f) → (T (not t) → overflow f ≤ q * 2 ^ k) → Nearest f (fraction a b) s (cond t (odd (suc (prec f)) s q k (low f)) (inf s))
+    go : (t : Bool) → (T t → q * 2 ^ k < overflow f) → (T (not t) → overflow f ≤ q * 2 ^ k)
+        → Nearest f (fraction a b) s (cond t (odd (suc (prec f)) s q k (low f)) (inf s))
     go true h g =
         let r = odd (suc (prec f)) s q k (low f) in
         let v = odd-sign (suc (prec f)) s q k (low f) in
@@ -289,10 +296,12 @@ units-nearest f s a b B = go (ltb (q * 2 ^ k) (overflow f)) (ltb→lt (q * 2 ^ k
         let l = leads (prec f) (a * 2 ^ low f) b P B in
         let m = kept-le (prec f) (a * 2 ^ low f) b in
         nearest-of f s (fraction a b) (fraction-lawful a b) r q k c l
-        (fraction-close (prec f) (low f) (overflow f) a b q k B (closest-half (a * 2 ^ low f) (b * 2 ^ k) (mul-pos B (pow-pos k))) edge (Even f r) (even-of f r q k c m l))
+        (fraction-close (prec f) (low f) (overflow f) a b q k B (closest-half (a * 2 ^ low f) (b * 2 ^ k) (mul-pos B (pow-pos k))) edge (Even f r)
+        (even-of f r q k c m l))
         (odd-fits f (suc (prec f)) s q k (under-suc q (prec f) m) m (h tt)) (signed s r (q * 2 ^ k) (2 ^ low f) v)
     go false h g =
-        nearest-of f s (fraction a b) (fraction-lawful a b) (inf s) (2 ^ prec f) (spare f) (inf-value f s) (inf-lead f) (inf-close f s a b B (g tt)) (inf-fits f s) refl
+        nearest-of f s (fraction a b) (fraction-lawful a b) (inf s) (2 ^ prec f) (spare f) (inf-value f s) (inf-lead f) (inf-close f s a b B (g tt))
+        (inf-fits f s) refl
 
 -- `round` rounds to nearest, ties to even
 pub round-nearest : (f : Format) (s : Bool) (a b : ℕ) → 0 < b → Nearest f (fraction a b) s (round f s a b)

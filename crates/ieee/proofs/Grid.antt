@@ -74,7 +74,8 @@ fits-deep f s (suc m) e h =
 pub fits-below : (f : Format) (s : Bool) (m : ℕ) (e : ℤ) → T (fits f (fin s m e)) → m * up e < 2 ^ suc (emax f) * down e
 unfolding fits
 fits-below f s zero e h = lt-of-le-of-lt (le-of-eq (zero-mul (up e))) (mul-pos (pow-pos (suc (emax f))) (down-pos e))
-fits-below f s (suc m) e h = ltb→lt (suc m * up e) (2 ^ suc (emax f) * down e) (and-r (eqb (suc m % 2) 1 && ltb (suc m) (2 ^ prec f) && leb (down e) (2 ^ low f)) (ltb (suc m * up e) (2 ^ suc (emax f) * down e)) h)
+fits-below f s (suc m) e h = ltb→lt (suc m * up e) (2 ^ suc (emax f) * down e)
+    (and-r (eqb (suc m % 2) 1 && ltb (suc m) (2 ^ prec f) && leb (down e) (2 ^ low f)) (ltb (suc m * up e) (2 ^ suc (emax f) * down e)) h)
 
 pub on-grid : (f : Format) (s : Bool) (w : Float) → T (fits f w) → HasSign s w → OnGrid f w
 unfolding fits
@@ -86,7 +87,13 @@ on-grid f s (inf t) h g = record {
   digits = pow-lt {i = 0} (two-le-pos (prec f) (two f));
   reach = le-of-eq (one-mul (2 ^ (suc (emax f) + low f)) ∙ ap (λ (x : ℕ). 2 ^ x) (add-comm (suc (emax f)) (low f)));
 }
-on-grid f s (fin t zero e) h g = record { n = 0; j = 0; value = zero-value (up e) (down e) (2 ^ low f); digits = pow-pos (prec f); reach = le-trans (le-of-eq (zero-mul (2 ^ 0))) zero-le }
+on-grid f s (fin t zero e) h g = record {
+  n = 0;
+  j = 0;
+  value = zero-value (up e) (down e) (2 ^ low f);
+  digits = pow-pos (prec f);
+  reach = le-trans (le-of-eq (zero-mul (2 ^ 0))) zero-le;
+}
 on-grid f s (fin t (suc m) e) h g =
     let p = place (suc m) (low f) e (fits-deep f t (suc m) e h) in
     record {
@@ -94,7 +101,8 @@ on-grid f s (fin t (suc m) e) h g =
       j = p .0;
       value = p .1;
       digits = fits-digits f t (suc m) e h;
-      reach = le-of-lt (under (suc m * up e) (down e) (2 ^ low f) (suc m * 2 ^ p .0) (2 ^ suc (emax f)) (overflow f) (pow-pos (low f)) (p .1) (pow-add 2 (low f) (suc (emax f))) (fits-below f t (suc m) e h));
+      reach = le-of-lt (under (suc m * up e) (down e) (2 ^ low f) (suc m * 2 ^ p .0) (2 ^ suc (emax f)) (overflow f) (pow-pos (low f)) (p .1)
+          (pow-add 2 (low f) (suc (emax f))) (fits-below f t (suc m) e h));
     }
 
 pub den-pos : (w : Float) → 0 < den w
@@ -174,7 +182,8 @@ next-down p q k n j P L N h =
             | inr b ↦
                 elim (eq-or-lt-of-le b) [
                   | inl e ↦ inr (sym e, lt-of-le-of-lt zero-le lt)
-                  | inr g ↦ inl (step (n * 2 ^ j) (2 ^ (p - 1) * 2 ^ k) (2 ^ k) (q * 2 ^ k) (finer p n j k P N lt) (one-more (2 ^ (p - 1)) q (2 ^ k) (mul-lt-mul-of-pos-right g (pow-pos k))))
+                  | inr g ↦ inl (step (n * 2 ^ j) (2 ^ (p - 1) * 2 ^ k) (2 ^ k) (q * 2 ^ k) (finer p n j k P N lt)
+                      (one-more (2 ^ (p - 1)) q (2 ^ k) (mul-lt-mul-of-pos-right g (pow-pos k))))
                 ]
           ]
     ]
@@ -219,7 +228,8 @@ add-down R u W h = omega arith
 add-lt : (R W : ℕ) → W < R → R + W < R + R
 add-lt R W h = omega arith
 
-module _ (f : Format) (s : Bool) (ρ : Real) (law : Lawful ρ) (r : Float) (q k : ℕ) (value : num f r * 2 ^ low f ≡ q * 2 ^ k * den r) (lead : Leading (prec f) q k) (close : Close (prec f) (low f) (overflow f) ρ q k (Even f r)) where
+module _ (f : Format) (s : Bool) (ρ : Real) (law : Lawful ρ) (r : Float) (q k : ℕ) (value : num f r * 2 ^ low f ≡ q * 2 ^ k * den r)
+    (lead : Leading (prec f) q k) (close : Close (prec f) (low f) (overflow f) ρ q k (Even f r)) where
   P : 0 < prec f
   P = two-le-pos (prec f) (two f)
 

@@ -32,7 +32,8 @@ unfolding isqrt
 isqrt-is zero n h = omega arith
 isqrt-is (suc k) n h = go (isqrt k (n / 4)) (isqrt-is k (n / 4) (div-lt-iff-lt-mul (zero-lt-suc 3) .1 (subst (λ (x : ℕ). n < x) (pow-suc 4 k) h)))
   where
-    pick : (s : ℕ) → IsRoot s (n / 4) → (t : Bool) → (T t → n < (2 * s + 1) * (2 * s + 1)) → (T (not t) → (2 * s + 1) * (2 * s + 1) ≤ n) → IsRoot (cond t (2 * s) (2 * s + 1)) n
+    pick : (s : ℕ) → IsRoot s (n / 4) → (t : Bool) → (T t → n < (2 * s + 1) * (2 * s + 1)) → (T (not t) → (2 * s + 1) * (2 * s + 1) ≤ n)
+        → IsRoot (cond t (2 * s) (2 * s + 1)) n
     pick s r true a b = (fourth n s (r .0), a tt)
     pick s r false a b = (b tt, fourth-up n s (r .1))
 
@@ -96,8 +97,10 @@ sides s n r = go (eqb (s * s) n) (eqb→eq (s * s) n) (λ (e : s * s ≡ n). eq�
 
 -- ---- two reals that compare alike with every middle have the same nearest value
 module _ (f : Format) (s : Bool) (ρ σ : Real) (law : Lawful ρ) (law' : Lawful σ)
-    (most : (a : ℕ) → ρ .atMost a (2 * 2 ^ low f) → σ .atMost a (2 * 2 ^ low f)) (most-back : (a : ℕ) → σ .atMost a (2 * 2 ^ low f) → ρ .atMost a (2 * 2 ^ low f))
-    (least : (a : ℕ) → ρ .atLeast a (2 * 2 ^ low f) → σ .atLeast a (2 * 2 ^ low f)) (least-back : (a : ℕ) → σ .atLeast a (2 * 2 ^ low f) → ρ .atLeast a (2 * 2 ^ low f)) where
+    (most : (a : ℕ) → ρ .atMost a (2 * 2 ^ low f) → σ .atMost a (2 * 2 ^ low f))
+    (most-back : (a : ℕ) → σ .atMost a (2 * 2 ^ low f) → ρ .atMost a (2 * 2 ^ low f))
+    (least : (a : ℕ) → ρ .atLeast a (2 * 2 ^ low f) → σ .atLeast a (2 * 2 ^ low f))
+    (least-back : (a : ℕ) → σ .atLeast a (2 * 2 ^ low f) → ρ .atLeast a (2 * 2 ^ low f)) where
   half-pos : 0 < 2 * 2 ^ low f
   half-pos = mul-pos (pow-pos 1) (pow-pos (low f))
 
@@ -110,12 +113,14 @@ module _ (f : Format) (s : Bool) (ρ σ : Real) (law : Lawful ρ) (law' : Lawful
   mid : (v w : Float) (g : OnGrid f v) (o : OnGrid f w) → midNum f v w * (2 * 2 ^ low f) ≡ count v w g o * midDen v w
   mid v w g o = middle (num f v) (den v) (num f w) (den w) (2 ^ low f) (g .n * 2 ^ g .j) (o .n * 2 ^ o .j) (g .value) (o .value)
 
-  go-most : (ρ σ : Real) → Lawful ρ → Lawful σ → ((a : ℕ) → ρ .atMost a (2 * 2 ^ low f) → σ .atMost a (2 * 2 ^ low f)) → (v w : Float) → OnGrid f v → OnGrid f w → ρ .atMost (midNum f v w) (midDen v w) → σ .atMost (midNum f v w) (midDen v w)
+  go-most : (ρ σ : Real) → Lawful ρ → Lawful σ → ((a : ℕ) → ρ .atMost a (2 * 2 ^ low f) → σ .atMost a (2 * 2 ^ low f)) → (v w : Float) → OnGrid f v → OnGrid f w
+      → ρ .atMost (midNum f v w) (midDen v w) → σ .atMost (midNum f v w) (midDen v w)
   go-most ρ σ l l' k v w g o h =
       l' .higher (count v w g o) (2 * 2 ^ low f) (midNum f v w) (midDen v w) half-pos (mid-pos v w) (le-of-eq (sym (mid v w g o)))
       (k (count v w g o) (l .higher (midNum f v w) (midDen v w) (count v w g o) (2 * 2 ^ low f) (mid-pos v w) half-pos (le-of-eq (mid v w g o)) h))
 
-  go-least : (ρ σ : Real) → Lawful ρ → Lawful σ → ((a : ℕ) → ρ .atLeast a (2 * 2 ^ low f) → σ .atLeast a (2 * 2 ^ low f)) → (v w : Float) → OnGrid f v → OnGrid f w → ρ .atLeast (midNum f v w) (midDen v w) → σ .atLeast (midNum f v w) (midDen v w)
+  go-least : (ρ σ : Real) → Lawful ρ → Lawful σ → ((a : ℕ) → ρ .atLeast a (2 * 2 ^ low f) → σ .atLeast a (2 * 2 ^ low f)) → (v w : Float) → OnGrid f v
+      → OnGrid f w → ρ .atLeast (midNum f v w) (midDen v w) → σ .atLeast (midNum f v w) (midDen v w)
   go-least ρ σ l l' k v w g o h =
       l' .lower (midNum f v w) (midDen v w) (count v w g o) (2 * 2 ^ low f) (mid-pos v w) half-pos (le-of-eq (mid v w g o))
       (k (count v w g o) (l .lower (count v w g o) (2 * 2 ^ low f) (midNum f v w) (midDen v w) half-pos (mid-pos v w) (le-of-eq (sym (mid v w g o))) h))
@@ -144,18 +149,23 @@ module _ (p d G A : ℕ) (D : 0 < d) (E : 0 < G) (sd : Sides A (p * d * (G * G))
   regroup y = omega arith
 
   a-most : (y : ℕ) → fraction A (2 * (d * G)) .atMost y G → root p d .atMost y G
-  a-most y h = le-of-mul-le-mul-right (le-trans (le-of-eq (sym spread)) (le-trans (sd .most-back (y * d) (le-of-mul-le-mul-right (le-trans h (le-of-eq (regroup y))) E)) (le-of-eq (scaled y)))) D
+  a-most y h = le-of-mul-le-mul-right (le-trans (le-of-eq (sym spread))
+      (le-trans (sd .most-back (y * d) (le-of-mul-le-mul-right (le-trans h (le-of-eq (regroup y))) E)) (le-of-eq (scaled y)))) D
 
   a-most-back : (y : ℕ) → root p d .atMost y G → fraction A (2 * (d * G)) .atMost y G
-  a-most-back y h = le-trans (mul-le-mul-right G (sd .most (y * d) (le-trans (le-of-eq spread) (le-trans (mul-le-mul-right d h) (le-of-eq (sym (scaled y))))))) (le-of-eq (sym (regroup y)))
+  a-most-back y h = le-trans (mul-le-mul-right G (sd .most (y * d) (le-trans (le-of-eq spread) (le-trans (mul-le-mul-right d h) (le-of-eq (sym (scaled y)))))))
+      (le-of-eq (sym (regroup y)))
 
   a-least : (y : ℕ) → fraction A (2 * (d * G)) .atLeast y G → root p d .atLeast y G
-  a-least y h = le-of-mul-le-mul-right (le-trans (le-of-eq (sym (scaled y))) (le-trans (sd .least-back (y * d) (le-of-mul-le-mul-right (le-trans (le-of-eq (sym (regroup y))) h) E)) (le-of-eq spread))) D
+  a-least y h = le-of-mul-le-mul-right (le-trans (le-of-eq (sym (scaled y)))
+      (le-trans (sd .least-back (y * d) (le-of-mul-le-mul-right (le-trans (le-of-eq (sym (regroup y))) h) E)) (le-of-eq spread))) D
 
   a-least-back : (y : ℕ) → root p d .atLeast y G → fraction A (2 * (d * G)) .atLeast y G
-  a-least-back y h = le-trans (le-of-eq (regroup y)) (mul-le-mul-right G (sd .least (y * d) (le-trans (le-of-eq (scaled y)) (le-trans (mul-le-mul-right d h) (le-of-eq (sym spread))))))
+  a-least-back y h = le-trans (le-of-eq (regroup y)) (mul-le-mul-right G
+      (sd .least (y * d) (le-trans (le-of-eq (scaled y)) (le-trans (mul-le-mul-right d h) (le-of-eq (sym spread))))))
 
-rounded : (f : Format) (p d G : ℕ) → 0 < d → G ≡ 2 * 2 ^ low f → Nearest f (root p d) false (round f false (withSticky (isqrt (size (p * d * (G * G))) (p * d * (G * G))) (p * d * (G * G))) (2 * (d * G)))
+rounded : (f : Format) (p d G : ℕ) → 0 < d → G ≡ 2 * 2 ^ low f
+    → Nearest f (root p d) false (round f false (withSticky (isqrt (size (p * d * (G * G))) (p * d * (G * G))) (p * d * (G * G))) (2 * (d * G)))
 rounded f p d G D e =
     let N = p * d * (G * G) in
     let A = withSticky (isqrt (size N) N) N in

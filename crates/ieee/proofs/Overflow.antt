@@ -1,4 +1,5 @@
--- What is nearest is an infinity exactly from 2 ^ emax * (2 - 2 ^ -prec) on, as IEEE 754 (4.3.1) says (`overflows`, `overflows-back`), for every format and every real
+-- What is nearest is an infinity exactly from 2 ^ emax * (2 - 2 ^ -prec) on, as IEEE 754 (4.3.1) says (`overflows`, `overflows-back`), for every format and
+-- every real
 -- number. So counting an infinity as 2 ^ (emax + 1), as `num` does, is what the standard asks.
 use mathlib.Core.Path.{_≡_, refl, sym, ap, _∙_, subst}
 use mathlib.Core.Logic.{inl, inr}
@@ -96,11 +97,13 @@ module _ (f : Format) where
   edge-value =
       let E = 2 ^ suc (prec f) - 1 in
       let o : 2 ^ spare f * 2 ^ prec f ≡ 2 ^ emax f * (2 * 2 ^ low f) =
-      mul-comm (2 ^ spare f) (2 ^ prec f) ∙ spare-is f ∙ pow-add 2 (low f) (suc (emax f)) ∙ ap (λ (z : ℕ). 2 ^ low f * z) (pow-succ' 2 (emax f)) ∙ turn (2 ^ low f) (2 ^ emax f) in
+      mul-comm (2 ^ spare f) (2 ^ prec f) ∙ spare-is f ∙ pow-add 2 (low f) (suc (emax f)) ∙ ap (λ (z : ℕ). 2 ^ low f * z) (pow-succ' 2 (emax f))
+      ∙ turn (2 ^ low f) (2 ^ emax f) in
       swap (2 ^ emax f) E (2 * 2 ^ low f)
       ∙ ap (λ (z : ℕ). E * z) (sym o)
       ∙ sym (mul-assoc E (2 ^ spare f) (2 ^ prec f))
-      ∙ ap (λ (z : ℕ). z * 2 ^ prec f) (double-less (2 ^ prec f) (2 ^ suc (prec f)) (overflow f) (pow-succ' 2 (prec f)) (pow-pos (prec f)) (2 ^ spare f) (spare-is f))
+      ∙ ap (λ (z : ℕ). z * 2 ^ prec f) (double-less (2 ^ prec f) (2 ^ suc (prec f)) (overflow f) (pow-succ' 2 (prec f)) (pow-pos (prec f)) (2 ^ spare f)
+      (spare-is f))
     where
       turn : (l e : ℕ) → l * (2 * e) ≡ e * (2 * l)
       turn l e = omega arith
@@ -129,11 +132,14 @@ module _ (f : Format) where
         let w = odd (suc (prec f)) s (2 ^ prec f - 1) (spare f) (low f) in
         let v = odd-sign (suc (prec f)) s (2 ^ prec f - 1) (spare f) (low f) in
         let wv : num f w * 2 ^ low f ≡ top * den w = counted f s w top (2 ^ low f) v in
-        let held : T (fits f w) = odd-fits f (suc (prec f)) s (2 ^ prec f - 1) (spare f) (lt-of-lt-of-le (under (prec f) (two f)) (pow-mono (le-step (le-refl (prec f))))) (le-of-lt (under (prec f) (two f))) top-lt in
-        let lt : Smaller f w (inf s) = back-order (num f w) (den w) (num f (inf s)) (den (inf s)) (2 ^ low f) top (overflow f) (den-pos w) (den-pos (inf s)) wv (inf-is s) top-lt in
+        let held : T (fits f w) = odd-fits f (suc (prec f)) s (2 ^ prec f - 1) (spare f)
+        (lt-of-lt-of-le (under (prec f) (two f)) (pow-mono (le-step (le-refl (prec f))))) (le-of-lt (under (prec f) (two f))) top-lt in
+        let lt : Smaller f w (inf s) = back-order (num f w) (den w) (num f (inf s)) (den (inf s)) (2 ^ low f) top (overflow f) (den-pos w) (den-pos (inf s)) wv
+        (inf-is s) top-lt in
         law .lower (edgeNum f) (edgeDen f) (midNum f (inf s) w) (midDen (inf s) w) (pow-pos (prec f)) (mid-pos (inf s) w)
         (le-of-eq (eq-of-mul-eq-mul-right (2 * 2 ^ low f) half-pos (edgeNum f * midDen (inf s) w) (midNum f (inf s) w * edgeDen f)
-        (join (edgeNum f) (midDen (inf s) w) (2 * 2 ^ low f) (midNum f (inf s) w) (edgeDen f) (top + overflow f) edge-value (mid-at (inf s) w (overflow f) top (inf-is s) wv ∙ ap (λ (z : ℕ). z * midDen (inf s) w) (add-comm (overflow f) top)))))
+        (join (edgeNum f) (midDen (inf s) w) (2 * 2 ^ low f) (midNum f (inf s) w) (edgeDen f) (top + overflow f) edge-value
+        (mid-at (inf s) w (overflow f) top (inf-is s) wv ∙ ap (λ (z : ℕ). z * midDen (inf s) w) (add-comm (overflow f) top)))))
         (n .fromBelow w held (signed s w top (2 ^ low f) v) lt)
       where
         join : (a b c d e m : ℕ) → a * c ≡ m * e → d * c ≡ m * b → a * b * c ≡ d * e * c
@@ -147,18 +153,25 @@ module _ (f : Format) where
         let most = n .fromAbove (inf s) (inf-fits f s) refl lt in
         let c = cut (midNum f r (inf s)) (midDen r (inf s)) (edgeNum f) (edgeDen f) (mid-pos r (inf s)) (pow-pos (prec f)) h most in
         let m = mid-at r (inf s) R (overflow f) (o .value) (inf-is s) in
-        let R-lt : R < overflow f = order (num f r) (den r) (num f (inf s)) (den (inf s)) (2 ^ low f) R (overflow f) (pow-pos (low f)) (o .value) (inf-is s) lt in
-        let R-ge : top ≤ R = le-of-not-lt R top (λ (g : R < top). not-le-of-lt (back-order (midNum f r (inf s)) (midDen r (inf s)) (edgeNum f) (edgeDen f) (2 * 2 ^ low f) (R + overflow f) (top + overflow f) (mid-pos r (inf s)) (pow-pos (prec f)) m edge-value (plus R top (overflow f) g)) c) in
+        let R-lt : R < overflow f = order (num f r) (den r) (num f (inf s)) (den (inf s)) (2 ^ low f) R (overflow f) (pow-pos (low f)) (o .value) (inf-is s)
+        lt in
+        let R-ge : top ≤ R = le-of-not-lt R top (λ (g : R < top). not-le-of-lt
+        (back-order (midNum f r (inf s)) (midDen r (inf s)) (edgeNum f) (edgeDen f) (2 * 2 ^ low f) (R + overflow f) (top + overflow f) (mid-pos r (inf s))
+        (pow-pos (prec f)) m edge-value (plus R top (overflow f) g)) c) in
         let R-is : top ≡ R = elim (eq-or-lt-of-le R-ge) [
           | inl e ↦ e
-          | inr g ↦ absurd (not-le-of-lt R-lt (le-trans (le-of-eq (sym (one-off (2 ^ prec f) (2 ^ spare f) (pow-pos (prec f)) ∙ spare-is f))) (next-up (prec f) (2 ^ prec f - 1) (spare f) (o .n) (o .j) (two-le-pos (prec f) (two f)) (inr (lead-last (prec f) (two f))) (o .digits) g)))
+          | inr g ↦ absurd (not-le-of-lt R-lt (le-trans (le-of-eq (sym (one-off (2 ^ prec f) (2 ^ spare f) (pow-pos (prec f)) ∙ spare-is f)))
+              (next-up (prec f) (2 ^ prec f - 1) (spare f) (o .n) (o .j) (two-le-pos (prec f) (two f)) (inr (lead-last (prec f) (two f))) (o .digits) g)))
         ] in
         let tie = law .lower (midNum f r (inf s)) (midDen r (inf s)) (edgeNum f) (edgeDen f) (mid-pos r (inf s)) (pow-pos (prec f))
         (le-of-eq (eq-of-mul-eq-mul-right (2 * 2 ^ low f) half-pos (midNum f r (inf s) * edgeDen f) (edgeNum f * midDen r (inf s))
-        (join (midNum f r (inf s)) (edgeDen f) (2 * 2 ^ low f) (edgeNum f) (midDen r (inf s)) (R + overflow f) m (edge-value ∙ ap (λ (z : ℕ). (z + overflow f) * edgeDen f) R-is)))) h in
+        (join (midNum f r (inf s)) (edgeDen f) (2 * 2 ^ low f) (edgeNum f) (midDen r (inf s)) (R + overflow f) m
+        (edge-value ∙ ap (λ (z : ℕ). (z + overflow f) * edgeDen f) R-is)))) h in
         let e : Even f r = n .tieAbove (inf s) (inf-fits f s) refl lt tie in
-        not-next (prec f) (2 * (2 ^ (prec f - 1) - 1)) (spare f) (e .c) (e .k) (2 ^ (prec f - 1) - 1) (e .half) (two f) (small (prec f) (two f)) (e .digits) (inr (lead (prec f) (two f))) refl (e .even)
-        (ap (λ (z : ℕ). z * 2 ^ spare f) (last (prec f) (two f)) ∙ R-is ∙ eq-of-mul-eq-mul-right (den r) (den-pos r) R (e .c * 2 ^ e .k) (sym (o .value) ∙ e .value))
+        not-next (prec f) (2 * (2 ^ (prec f - 1) - 1)) (spare f) (e .c) (e .k) (2 ^ (prec f - 1) - 1) (e .half) (two f) (small (prec f) (two f)) (e .digits)
+        (inr (lead (prec f) (two f))) refl (e .even)
+        (ap (λ (z : ℕ). z * 2 ^ spare f) (last (prec f) (two f)) ∙ R-is
+        ∙ eq-of-mul-eq-mul-right (den r) (den-pos r) R (e .c * 2 ^ e .k) (sym (o .value) ∙ e .value))
       where
         plus : (a b c : ℕ) → a < b → a + c < b + c
         plus a b c h = omega arith

@@ -32,7 +32,8 @@ differ x h e = omega arith
 
 under-ones : (t x : ℕ) → suc x < 2047 → ofFields binary64 false (suc x) t ≡ odd 53 false (2 ^ 52 + t) x 1074
 unfolding ofFields
-under-ones t x h = cond-no (eqb (suc x) 2047) (cond (eqb t 0) (inf false) nan) (odd 53 false (2 ^ 52 + t) x 1074) (not-T (eqb (suc x) 2047) (λ (u : T (eqb (suc x) 2047)). differ x h (eqb→eq (suc x) 2047 u)))
+under-ones t x h = cond-no (eqb (suc x) 2047) (cond (eqb t 0) (inf false) nan) (odd 53 false (2 ^ 52 + t) x 1074)
+    (not-T (eqb (suc x) 2047) (λ (u : T (eqb (suc x) 2047)). differ x h (eqb→eq (suc x) 2047 u)))
 
 at-zero : (t : ℕ) → ofFields binary64 false 0 t ≡ odd 53 false t 0 1074
 unfolding ofFields
@@ -100,9 +101,11 @@ near : (p d n b : ℕ) → 0 < d → p * 2 ^ 1074 ≡ n * d → Rooted (n * 2 ^ 
 near p d n b D x g =
     let r = ofBits binary64 b in
     let v : HasValue r false (g .q * 2 ^ g .k) (2 ^ 1074) =
-    subst (λ (z : Float). HasValue z false (g .q * 2 ^ g .k) (2 ^ 1074)) (sym (ap (ofBits binary64) (g .bits) ∙ made (g .k) (g .q) (g .least) (g .most) (g .exponent))) (odd-sign 53 false (g .q) (g .k) 1074) in
+    subst (λ (z : Float). HasValue z false (g .q * 2 ^ g .k) (2 ^ 1074))
+    (sym (ap (ofBits binary64) (g .bits) ∙ made (g .k) (g .q) (g .least) (g .most) (g .exponent))) (odd-sign 53 false (g .q) (g .k) 1074) in
     nearest-of binary64 false (root p d) (root-lawful p d) r (g .q) (g .k) (counted binary64 false r (g .q * 2 ^ g .k) (2 ^ 1074) v) (inr (g .least))
-    (root-close p d n 1074 (g .M) (g .q) (g .k) (2 ^ 52) D x (g .square ∙ mul-assoc n (2 ^ 52) (2 ^ 1022)) (g .below) (g .above) (g .start) (above-zero (g .q) (g .least)) 53 _ refl _)
+    (root-close p d n 1074 (g .M) (g .q) (g .k) (2 ^ 52) D x (g .square ∙ mul-assoc n (2 ^ 52) (2 ^ 1022)) (g .below) (g .above) (g .start)
+    (above-zero (g .q) (g .least)) 53 _ refl _)
     (ofBits-fits binary64 b) (signed false r (g .q * 2 ^ g .k) (2 ^ 1074) v)
 
 -- ---- `sqrt` at each kind of x
@@ -199,7 +202,8 @@ either false x y p q h = q h
 minus : (x t : ℕ) → Above (ofFields binary64 true x t) → ⊥
 unfolding ofFields
 minus zero t h = odd-minus 53 t 0 1074 h
-minus (suc x) t h = either (eqb (suc x) 2047) (cond (eqb t 0) (inf true) nan) (odd 53 true (2 ^ 52 + t) x 1074) (special (eqb t 0) true) (odd-minus 53 (2 ^ 52 + t) x 1074) h
+minus (suc x) t h = either (eqb (suc x) 2047) (cond (eqb t 0) (inf true) nan) (odd 53 true (2 ^ 52 + t) x 1074) (special (eqb t 0) true)
+    (odd-minus 53 (2 ^ 52 + t) x 1074) h
 
 at-top : (s : Bool) (t : ℕ) → Above (ofFields binary64 s 2047 t) → ⊥
 unfolding ofFields
@@ -262,9 +266,11 @@ neither (inf false) h g = absurd g
 neither (fin true zero d) h g = refl
 neither (fin false zero d) h g = refl
 neither (fin true (suc m) d) h g =
-    absurd (T-not (ltb 0 (suc m * up d * 1 + 0 * 1 * down d)) h (lt→ltb 0 (suc m * up d * 1 + 0 * 1 * down d) (grown (suc m * up d * 1) (0 * 1 * down d) (some-pos m (up d) 1 (up-pos d) (zero-lt-suc 0)))))
+    absurd (T-not (ltb 0 (suc m * up d * 1 + 0 * 1 * down d)) h
+    (lt→ltb 0 (suc m * up d * 1 + 0 * 1 * down d) (grown (suc m * up d * 1) (0 * 1 * down d) (some-pos m (up d) 1 (up-pos d) (zero-lt-suc 0)))))
 neither (fin false (suc m) d) h g =
-    absurd (T-not (ltb (0 * 1 * down d) (suc m * up d * 1)) g (lt→ltb (0 * 1 * down d) (suc m * up d * 1) (over-zero (suc m * up d * 1) 1 (down d) (some-pos m (up d) 1 (up-pos d) (zero-lt-suc 0)))))
+    absurd (T-not (ltb (0 * 1 * down d) (suc m * up d * 1)) g
+    (lt→ltb (0 * 1 * down d) (suc m * up d * 1) (over-zero (suc m * up d * 1) 1 (down d) (some-pos m (up d) 1 (up-pos d) (zero-lt-suc 0)))))
 
 pub above-no-nan : (x : Float) → T (lt (fin false 0 (pos 0)) x) → T (not (isNan x))
 unfolding lt isNan

@@ -75,7 +75,8 @@ row-edge q u a h = omega arith
 key : (p d n L M u : ℕ) → p * L ≡ n * d → M * (u * u) ≡ n * L → p * (2 * L * (2 * L)) ≡ 4 * M * (u * u) * d
 key p d n L M u x y = omega (arith, ap (λ (z : ℕ). z * (4 * L)) x, ap (λ (z : ℕ). z * (4 * d)) y)
 
-module _ (p d n l M q k e : ℕ) (D : 0 < d) (x : p * 2 ^ l ≡ n * d) (y : M * 2 ^ (k + k) ≡ n * 2 ^ l) (lo : q * q < M + q) (hi : M ≤ q * q + q) (low : e * e ≤ M) (Q : 0 < q) where
+module _ (p d n l M q k e : ℕ) (D : 0 < d) (x : p * 2 ^ l ≡ n * d) (y : M * 2 ^ (k + k) ≡ n * 2 ^ l) (lo : q * q < M + q) (hi : M ≤ q * q + q) (low : e * e ≤ M)
+    (Q : 0 < q) where
   eq : p * (2 * 2 ^ l * (2 * 2 ^ l)) ≡ 4 * M * (2 ^ k * 2 ^ k) * d
   eq = key p d n (2 ^ l) M (2 ^ k) x (ap (λ (z : ℕ). M * z) (sym (pow-add 2 k k)) ∙ y)
 

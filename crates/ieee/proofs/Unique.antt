@@ -55,14 +55,17 @@ module _ (p c k c' k' h h' : ℕ) (P : 2 ≤ p) (C : c < 2 ^ p) (C' : c' < 2 ^ p
     | inl le ↦
         odd-even c h k (2 ^ (k' - k)) h' e
         (eq-of-mul-eq-mul-right (2 ^ k) (pow-pos k) (suc c) (2 * h' * 2 ^ (k' - k))
-        (x ∙ ap (λ (z : ℕ). z * 2 ^ k') e' ∙ ap (λ (z : ℕ). 2 * h' * z) (ap (λ (z : ℕ). 2 ^ z) (sym (back k' k le)) ∙ pow-add 2 (k' - k) k) ∙ sym (mul-assoc (2 * h') (2 ^ (k' - k)) (2 ^ k))))
+        (x ∙ ap (λ (z : ℕ). z * 2 ^ k') e' ∙ ap (λ (z : ℕ). 2 * h' * z) (ap (λ (z : ℕ). 2 ^ z) (sym (back k' k le)) ∙ pow-add 2 (k' - k) k)
+        ∙ sym (mul-assoc (2 * h') (2 ^ (k' - k)) (2 ^ k))))
     | inr lt ↦
         elim lead [
           | inl z ↦ absurd (none k' k z lt)
           | inr b ↦
               too-large (2 ^ (p - 1)) c c' (2 ^ (k - suc k')) 0 (pow-pos (k - suc k')) b
               (eq-of-mul-eq-mul-right (2 ^ k') (pow-pos k') (suc c * (2 * 2 ^ (k - suc k'))) c'
-              (mul-assoc (suc c) (2 * 2 ^ (k - suc k')) (2 ^ k') ∙ ap (λ (z : ℕ). suc c * z) (ap (λ (z : ℕ). z * 2 ^ k') (sym (pow-succ' 2 (k - suc k'))) ∙ sym (pow-add 2 (suc (k - suc k')) k') ∙ ap (λ (z : ℕ). 2 ^ z) (joined k k' lt)) ∙ x))
+              (mul-assoc (suc c) (2 * 2 ^ (k - suc k')) (2 ^ k')
+              ∙ ap (λ (z : ℕ). suc c * z) (ap (λ (z : ℕ). z * 2 ^ k') (sym (pow-succ' 2 (k - suc k'))) ∙ sym (pow-add 2 (suc (k - suc k')) k')
+              ∙ ap (λ (z : ℕ). 2 ^ z) (joined k k' lt)) ∙ x))
               (lt-of-lt-of-le C' (le-of-eq (ap (λ (z : ℕ). 2 ^ z) (sym (before p P)) ∙ pow-succ' 2 (p - 1))))
         ]
   ]
@@ -105,23 +108,29 @@ module _ (f : Format) (s : Bool) (ρ : Real) (cut : Cut ρ) (r r' : Float) (n : 
       let R = e .c * 2 ^ e .k in
       let R' = e' .c * 2 ^ e' .k in
       let P = two-le-pos (prec f) (two f) in
-      let up = next-up (prec f) (e .c) (e .k) (e' .c) (e' .k) P (e .leading) (e' .digits) (order (num f r) (den r) (num f r') (den r') L R R' (pow-pos (low f)) (e .value) (e' .value) lt) in
+      let up = next-up (prec f) (e .c) (e .k) (e' .c) (e' .k) P (e .leading) (e' .digits)
+      (order (num f r) (den r) (num f r') (den r') L R R' (pow-pos (low f)) (e .value) (e' .value) lt) in
       let W = suc (e .c) * 2 ^ e .k in
       elim (eq-or-lt-of-le (le-trans (le-of-eq (row (e .c) (2 ^ e .k))) up)) [
-        | inl same ↦ not-next (prec f) (e .c) (e .k) (e' .c) (e' .k) (e .half) (e' .half) (two f) (e .digits) (e' .digits) (e .leading) (e .even) (e' .even) same
+        | inl same ↦ not-next (prec f) (e .c) (e .k) (e' .c) (e' .k) (e .half) (e' .half) (two f) (e .digits) (e' .digits) (e .leading) (e .even) (e' .even)
+            same
         | inr gap ↦
             let o = on-grid f s r' (n' .held) (n' .sign) in
-            let reach : R' ≤ overflow f = le-trans (le-of-eq (eq-of-mul-eq-mul-right (den r') (den-pos r') R' (o .n * 2 ^ o .j) (sym (e' .value) ∙ o .value))) (o .reach) in
+            let reach : R' ≤ overflow f = le-trans (le-of-eq (eq-of-mul-eq-mul-right (den r') (den-pos r') R' (o .n * 2 ^ o .j) (sym (e' .value) ∙ o .value)))
+            (o .reach) in
             let w = odd (suc (prec f)) s (suc (e .c)) (e .k) (low f) in
             let v = odd-sign (suc (prec f)) s (suc (e .c)) (e .k) (low f) in
             let wv : num f w * L ≡ W * den w = counted f s w W L v in
-            let held : T (fits f w) = odd-fits f (suc (prec f)) s (suc (e .c)) (e .k) (lt-of-le-of-lt (e .digits) (pow-lt (le-refl (suc (prec f))))) (e .digits) (lt-of-lt-of-le gap reach) in
-            let above : Smaller f r w = back-order (num f r) (den r) (num f w) (den w) L R W (den-pos r) (den-pos w) (e .value) wv (grown (e .c) (2 ^ e .k) (pow-pos (e .k))) in
+            let held : T (fits f w) = odd-fits f (suc (prec f)) s (suc (e .c)) (e .k) (lt-of-le-of-lt (e .digits) (pow-lt (le-refl (suc (prec f))))) (e .digits)
+            (lt-of-lt-of-le gap reach) in
+            let above : Smaller f r w = back-order (num f r) (den r) (num f w) (den w) L R W (den-pos r) (den-pos w) (e .value) wv
+            (grown (e .c) (2 ^ e .k) (pow-pos (e .k))) in
             let near = n .fromAbove w held (signed s w W L v) above in
             let c = cut (midNum f r w) (midDen r w) (midNum f r r') (midDen r r') (mid-pos r w) (mid-pos r r') least near in
             not-le-of-lt
             (back-order (midNum f r w) (midDen r w) (midNum f r r') (midDen r r') (2 * L) (R + W) (R + R') (mid-pos r w) (mid-pos r r')
-            (middle (num f r) (den r) (num f w) (den w) L R W (e .value) wv) (middle (num f r) (den r) (num f r') (den r') L R R' (e .value) (e' .value)) (more R W R' gap))
+            (middle (num f r) (den r) (num f w) (den w) L R W (e .value) wv) (middle (num f r) (den r) (num f r') (den r') L R R' (e .value) (e' .value))
+            (more R W R' gap))
             c
       ]
     where
@@ -138,7 +147,8 @@ module _ (f : Format) (s : Bool) (ρ : Real) (cut : Cut ρ) (r r' : Float) (n : 
 toBits-is : (f : Format) (s : Bool) (m : ℕ) (e : ℤ) (n : ℕ) → m * up e * 2 ^ low f ≡ n * down e
     → toBits f (fin s m e) ≡ cond s (top f) 0 + (size n - prec f) * hid f + n / 2 ^ (size n - prec f)
 unfolding toBits
-toBits-is f s m e n p = ap (λ (x : ℕ). cond s (top f) 0 + (size x - prec f) * hid f + x / 2 ^ (size x - prec f)) (ap (λ (x : ℕ). x / down e) p ∙ mul-div-cancel n (down-pos e))
+toBits-is f s m e n p = ap (λ (x : ℕ). cond s (top f) 0 + (size x - prec f) * hid f + x / 2 ^ (size x - prec f))
+    (ap (λ (x : ℕ). x / down e) p ∙ mul-div-cancel n (down-pos e))
 
 no-inf : (a b : ℕ) → a < b → a * 1 ≡ b → ⊥
 no-inf a b h e = omega arith

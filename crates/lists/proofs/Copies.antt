@@ -44,7 +44,8 @@ copied-all ts l₀ l i e p = p .0 ∙ go (ltb (length ts) (length l₀)) refl
 
     many : length l₀ ≤ length ts → take i ts ++ drop i l₀ ≡ copied ts l₀
     many h = let n : i ≡ length l₀ = omega (arith, e) in
-        ap (λ (z : ℕ). take z ts ++ drop z l₀) n ∙ ap (λ (t : List Float). take (length l₀) ts ++ t) (drop-length l₀ ∙ sym (drop-of-length-le l₀ {i = length ts} h))
+        ap (λ (z : ℕ). take z ts ++ drop z l₀) n ∙ ap (λ (t : List Float). take (length l₀) ts ++ t) (drop-length l₀
+        ∙ sym (drop-of-length-le l₀ {i = length ts} h))
 
     go : (b : Bool) → ltb (length ts) (length l₀) ≡ b → take i ts ++ drop i l₀ ≡ copied ts l₀
     go true t = few (omega (arith, ltb-true (length ts) (length l₀) t))

@@ -88,7 +88,8 @@ significand-fits (suc m) E s P k f =
     and-i (A && B && C') D' (and-i (A && B) C' ab (le→leb (down (minus 0 s)) (2 ^ 1074) (le-trans (le-of-eq (up-down s .1)) (pow-mono k))))
     (lt→ltb (suc m * up (minus 0 s)) (2 ^ 1024 * down (minus 0 s))
     (lt-of-le-of-lt (le-of-eq (ap (λ (z : ℕ). suc m * z) (up-down s .0) ∙ mul-one (suc m)))
-    (lt-of-lt-of-le b (le-trans (lit≤ {m = 2 ^ 53} {n = 2 ^ 1024} tt) (le-trans (le-of-eq (sym (mul-one (2 ^ 1024)))) (mul-le-mul-left (2 ^ 1024) (down-pos (minus 0 s))))))))
+    (lt-of-lt-of-le b (le-trans (lit≤ {m = 2 ^ 53} {n = 2 ^ 1024} tt)
+    (le-trans (le-of-eq (sym (mul-one (2 ^ 1024)))) (mul-le-mul-left (2 ^ 1024) (down-pos (minus 0 s))))))))
 
 -- ---- the parts of a value above zero that is q * 2 ^ a / 2 ^ l, q having 53 digits
 record Cross (M : ℕ) (E : ℤ) (q a l : ℕ) : Type 0 where
@@ -121,7 +122,8 @@ parts-from nan q a l f v lo hi = absurd v
 parts-from (inf s) q a l f v lo hi = absurd v
 parts-from (fin true M E) q a l f v lo hi = absurd (true≢false (v .0))
 parts-from (fin false zero E) q a l f v lo hi =
-    absurd (lt-irrefl 0 (lt-of-lt-of-le (mul-pos (mul-pos (lt-of-lt-of-le (pow-pos 52) lo) (pow-pos a)) (down-pos E)) (le-of-eq (sym (v .1) ∙ ap (λ (z : ℕ). z * 2 ^ l) (zero-mul (up E)) ∙ zero-mul (2 ^ l)))))
+    absurd (lt-irrefl 0 (lt-of-lt-of-le (mul-pos (mul-pos (lt-of-lt-of-le (pow-pos 52) lo) (pow-pos a)) (down-pos E))
+    (le-of-eq (sym (v .1) ∙ ap (λ (z : ℕ). z * 2 ^ l) (zero-mul (up E)) ∙ zero-mul (2 ^ l)))))
 parts-from (fin false (suc M) E) q a l f v lo hi =
     let c = crossed (suc M) E q a l (v .1) in
     let P : 0 < suc M = zero-lt-suc M in
@@ -129,7 +131,8 @@ parts-from (fin false (suc M) E) q a l f v lo hi =
     let few : size (suc M) ≤ 53 = size-le (suc M) 53 (fits-digits binary64 false (suc M) E f) in
     let sv = same-value (suc M) (c .u) q (c .v) P lo hi (c .same) in
     let H : q * 2 ^ 1022 * 2 ^ s ≡ suc M * 1 * 2 ^ 1074
-    = mul-right-comm q (2 ^ 1022) (2 ^ s) ∙ ap (λ (z : ℕ). z * 2 ^ 1022) (sym sv) ∙ mul-assoc (suc M) (2 ^ 52) (2 ^ 1022) ∙ ap (λ (z : ℕ). z * 2 ^ 1074) (sym (mul-one (suc M))) in
+    = mul-right-comm q (2 ^ 1022) (2 ^ s) ∙ ap (λ (z : ℕ). z * 2 ^ 1022) (sym sv) ∙ mul-assoc (suc M) (2 ^ 52) (2 ^ 1022)
+    ∙ ap (λ (z : ℕ). z * 2 ^ 1074) (sym (mul-one (suc M))) in
     pair
     (unique (fin false (suc M) (minus 0 s)) (odd 53 false q 1022 1074) false (q * 2 ^ 1022) (2 ^ 1074) (pow-pos 1074)
     (significand-fits (suc M) E s P (le-trans (trim (size (suc M)) few) (lit≤ tt)) f)
@@ -177,7 +180,8 @@ parts-low x q j f z e lo hi =
     let t = toBits binary64 x % 2 ^ 52 in
     let v : HasValue x false (t * 1) (2 ^ 1074) = subst⁻¹ (λ (y : Float). HasValue y false (t * 1) (2 ^ 1074)) (low-is x f z) (odd-sign 53 false t 0 1074) in
     let H : q * 1 * 2 ^ 1074 ≡ t * 1 * 2 ^ (1074 + j)
-    = ap (λ (k : ℕ). k * 2 ^ 1074) (mul-one q ∙ e) ∙ mul-assoc t (2 ^ j) (2 ^ 1074) ∙ ap (λ (k : ℕ). t * k) (sym (pow-add 2 j 1074) ∙ ap (λ (k : ℕ). 2 ^ k) (add-comm j 1074)) ∙ ap (λ (k : ℕ). k * 2 ^ (1074 + j)) (sym (mul-one t)) in
+    = ap (λ (k : ℕ). k * 2 ^ 1074) (mul-one q ∙ e) ∙ mul-assoc t (2 ^ j) (2 ^ 1074)
+    ∙ ap (λ (k : ℕ). t * k) (sym (pow-add 2 j 1074) ∙ ap (λ (k : ℕ). 2 ^ k) (add-comm j 1074)) ∙ ap (λ (k : ℕ). k * 2 ^ (1074 + j)) (sym (mul-one t)) in
     parts-from x q 0 (1074 + j) f (rescale x false (t * 1) (2 ^ 1074) (q * 1) (2 ^ (1074 + j)) (pow-pos 1074) H v) lo hi
     ∙ pair refl (minus-same 52 (1074 + j) 0 (1022 + j) (omega arith))
 
@@ -204,7 +208,9 @@ doubled q t j e = ap (λ (z : ℕ). z * 2) e ∙ mul-assoc t (2 ^ j) 2 ∙ ap (�
 pub few-turns : (q t j : ℕ) → 0 < t → q ≡ t * 2 ^ j → q < 2 ^ 53 → j ≤ 53
 few-turns q t j h e l =
     le-of-suc-le-suc
-    (lt-of-not-le (λ (k : 54 ≤ j). lt-irrefl q (lt-of-lt-of-le l (le-trans (pow-mono {i = 53} {j = j} (le-trans (lit≤ tt) k)) (le-trans (le-of-eq (sym (one-mul (2 ^ j)))) (le-trans (mul-le-mul-right (2 ^ j) h) (le-of-eq (sym e))))))))
+    (lt-of-not-le (λ (k : 54 ≤ j). lt-irrefl q (lt-of-lt-of-le l
+    (le-trans (pow-mono {i = 53} {j = j} (le-trans (lit≤ tt) k))
+    (le-trans (le-of-eq (sym (one-mul (2 ^ j)))) (le-trans (mul-le-mul-right (2 ^ j) h) (le-of-eq (sym e))))))))
 
 -- ---- the parts, said without digits
 -- 2 ^ (E + s) is 2 ^ E times 2 ^ s

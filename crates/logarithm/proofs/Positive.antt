@@ -15,7 +15,8 @@ pub inf-is : Ieee.div binary64 (ofBits binary64 0x3FF0000000000000) (ofBits bina
 unfolding Ieee.div ofBits
 inf-is = refl
 
-pub left-positive : (x : Float) → Ieee.ne x x ≡ false → lt x (ofBits binary64 0) ≡ false → eq x (ofBits binary64 0) ≡ false → eq x (inf false) ≡ false → T (positive x)
+pub left-positive : (x : Float) → Ieee.ne x x ≡ false → lt x (ofBits binary64 0) ≡ false → eq x (ofBits binary64 0) ≡ false → eq x (inf false) ≡ false
+    → T (positive x)
 unfolding Ieee.ne lt eq ofBits
 left-positive nan n l z i = absurd (true≢false n)
 left-positive (inf true) n l z i = absurd (true≢false l)
@@ -26,7 +27,8 @@ left-positive (fin s zero e) n l z i = absurd (true≢false (sym (level-zero s e
     level-zero true e = rw (zero-mul (up e), zero-mul (down e))
     level-zero false e = rw (zero-mul (up e), zero-mul (down e))
 left-positive (fin false (suc m) e) n l z i = lt→ltb 0 (suc m) (zero-lt-suc m)
-left-positive (fin true (suc m) e) n l z i = absurd (not-le-of-lt (mul-pos (mul-pos (zero-lt-suc m) (up-pos e)) (pow-pos 0)) (le-trans (le-add-right (suc m * up e * 1) (0 * down e)) (ltb-false 0 (suc m * up e * 1 + 0 * down e) l)))
+left-positive (fin true (suc m) e) n l z i = absurd (not-le-of-lt (mul-pos (mul-pos (zero-lt-suc m) (up-pos e)) (pow-pos 0))
+    (le-trans (le-add-right (suc m * up e * 1) (0 * down e)) (ltb-false 0 (suc m * up e * 1 + 0 * down e) l)))
 
 pub positive-number : (x : Float) → T (positive x) → T (not (Ieee.isNan x))
 unfolding Ieee.isNan

@@ -15,7 +15,8 @@ use Rattle.scalar.proofs.Values.{minus-pos, sum-is}
 
 pub difference-is : (a b : ℕ) → a < 2500 → b < 2500 → toZ w64 a -ℤ toZ w64 b ≡ minus a b
 difference-is a b A B =
-    ap (λ (z : ℤ). z -ℤ toZ w64 b) (toZ-pos w64 a (lt-of-lt-of-le A (lit≤ tt))) ∙ ap (λ (z : ℤ). pos a -ℤ z) (toZ-pos w64 b (lt-of-lt-of-le B (lit≤ tt))) ∙ go a b
+    ap (λ (z : ℤ). z -ℤ toZ w64 b) (toZ-pos w64 a (lt-of-lt-of-le A (lit≤ tt))) ∙ ap (λ (z : ℤ). pos a -ℤ z) (toZ-pos w64 b (lt-of-lt-of-le B (lit≤ tt)))
+    ∙ go a b
   where
     go : (a b : ℕ) → pos a -ℤ pos b ≡ minus a b
     go a zero = ap pos (add-zero a) ∙ sym (ap (λ (n : ℕ). minus n 0) (sym (add-zero a)) ∙ minus-pos a 0)

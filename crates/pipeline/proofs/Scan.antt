@@ -31,7 +31,8 @@ one-more : (b r : Bool) (n : ℕ) → (ltb 0 (n + cond b 0 1) || r) ≡ (ltb 0 n
 one-more true r n = rw add-zero
 one-more false r n = rw (lt-ltb 0 (n + 1) (omega arith)) (sym (or-true (ltb 0 n)))
 
-pub count-turn : (samples : List Float) {count i n : ℕ} → i < length samples → n ≡ cond (finite (getD samples i nan)) 0 1 → Counting samples count i → Counting samples (count + n) (i + 1)
+pub count-turn : (samples : List Float) {count i n : ℕ} → i < length samples → n ≡ cond (finite (getD samples i nan)) 0 1 → Counting samples count i
+    → Counting samples (count + n) (i + 1)
 unfolding notAllFinite
 count-turn samples {count} {i} {n} h e p =
     let b = finite (getD samples i nan) in

@@ -63,7 +63,8 @@ module _ (F : Filter) (s : F .State) (h : F .check s ≡ true) where
   unfolding outcome Runs.block
   block-outcome input output = rw h (go (isShort input output))
     where
-      go : (t : Bool) → (let b : Runs.Block (F .State) = cond t (refusedBlock ShortOutput s output) (record { refusal = Accepted; clouded = cloudedIn (answers F s input); state = after F s input; output = written (answers F s input) output }) in
+      go : (t : Bool) → (let b : Runs.Block (F .State) = cond t (refusedBlock ShortOutput s output)
+          (record { refusal = Accepted; clouded = cloudedIn (answers F s input); state = after F s input; output = written (answers F s input) output }) in
           blocked (b .refusal) (b .clouded) (b .output)) ≡ ran t (answers F s input) output
       go true = refl
       go false = refl
@@ -72,7 +73,9 @@ module _ (F : Filter) (s : F .State) (h : F .check s ≡ true) where
   unfolding left Runs.block
   block-left input output = rw (h, left) (go (isShort input output))
     where
-      go : (t : Bool) → (let b : Runs.Block (F .State) = cond t (refusedBlock ShortOutput s output) (record { refusal = Accepted; clouded = cloudedIn (answers F s input); state = after F s input; output = written (answers F s input) output }) in b .state) ≡ cond t s (after F s input)
+      go : (t : Bool) → (let b : Runs.Block (F .State) = cond t (refusedBlock ShortOutput s output)
+          (record { refusal = Accepted; clouded = cloudedIn (answers F s input); state = after F s input; output = written (answers F s input) output }) in
+          b .state) ≡ cond t s (after F s input)
       go true = refl
       go false = refl
 
@@ -93,12 +96,14 @@ module _ (F : Filter) (P : Plain) (fed : P .Fed) (S : Simulates F P fed) where
 
   -- the output places
   places-same : {since : Bool} {kept : List Float} {s : F .State} (xs output : List Float) → S .Beside since kept s
-      → places (dues P fed since (length kept) xs) (written (answers F s xs) output) ≡ places (dues P fed since (length kept) xs) (written (plainAnswers P fed kept xs) output)
+      → places (dues P fed since (length kept) xs) (written (answers F s xs) output)
+      ≡ places (dues P fed since (length kept) xs) (written (plainAnswers P fed kept xs) output)
   unfolding dues places written plainAnswers answers
   places-same [] output b = refl
   places-same (x ∷ xs) [] b = refl
   places-same {since} {kept} {s} (x ∷ xs) (y ∷ output) b =
-      rw (step-is F s x (S .good b)) (ap₂ _∷_ (shown-same (since || P .enough fed (suc (length kept))) (λ e. ap (λ (a : Answer). placed a y) (S .same x b e))) (places-same xs output (S .turn x b)))
+      rw (step-is F s x (S .good b)) (ap₂ _∷_ (shown-same (since || P .enough fed (suc (length kept))) (λ e. ap (λ (a : Answer). placed a y) (S .same x b e)))
+      (places-same xs output (S .turn x b)))
 
   -- the answers, where all are due
   answers-same : {since : Bool} {kept : List Float} {s : F .State} (xs : List Float) → S .Beside since kept s → all (dues P fed since (length kept) xs) ≡ true
@@ -126,12 +131,14 @@ module _ (F : Filter) (P : Plain) (fed : P .Fed) (S : Simulates F P fed) where
   call-same {since} {kept} {s} reset b e = reset-outcome F s (S .good b)
 
   block-seen : {since : Bool} {kept : List Float} {s : F .State} (t : Bool) (input output : List Float) → S .Beside since kept s
-      → (let ds = dues P fed since (length kept) (cond t [] input) in seenOf ds (ran t (answers F s input) output) ≡ seenOf ds (ran t (plainAnswers P fed kept input) output))
+      → (let ds = dues P fed since (length kept) (cond t [] input) in seenOf ds (ran t (answers F s input) output)
+      ≡ seenOf ds (ran t (plainAnswers P fed kept input) output))
   unfolding seenOf
   block-seen true input output b = refl
   block-seen {since} {kept} {s} false input output b =
       let ds = dues P fed since (length kept) input in
-      ap₂ (λ (n : Option ℕ) (l : List (Option Float)). ofBlock Accepted n l) (shown-same (all ds) (λ e. ap cloudedIn (answers-same input b e))) (places-same input output b)
+      ap₂ (λ (n : Option ℕ) (l : List (Option Float)). ofBlock Accepted n l) (shown-same (all ds) (λ e. ap cloudedIn (answers-same input b e)))
+      (places-same input output b)
 
   call-seen : {since : Bool} {kept : List Float} {s : F .State} (c : Call) → S .Beside since kept s
       → (let ds = dues P fed since (length kept) (answered c) in seenOf ds (outcome F s c) ≡ seenOf ds (plainOutcome P fed kept c))
@@ -150,7 +157,8 @@ module _ (F : Filter) (P : Plain) (fed : P .Fed) (S : Simulates F P fed) where
   block-beside true input b = b
   block-beside false input b = besides input b
 
-  call-beside : {since : Bool} {kept : List Float} {s : F .State} (c : Call) → S .Beside since kept s → S .Beside (since || isReset c) (keptAfter kept c) (left F s c)
+  call-beside : {since : Bool} {kept : List Float} {s : F .State} (c : Call) → S .Beside since kept s
+      → S .Beside (since || isReset c) (keptAfter kept c) (left F s c)
   unfolding keptAfter
   call-beside {since} {kept} {s} (step x) b = rw (or-false since, step-left F s (S .good b) x) (S .turn x b)
   call-beside {since} {kept} {s} (block input output) b =
@@ -205,7 +213,8 @@ forgets-shown F P feed s calls e p = rw e p
 
 -- the first of some calls, by what it returned and left, and the rest from there
 module _ (F : Filter) (s : F .State) {s′ : F .State} (calls : List Call) {outcomes : List Outcome} where
-  pub run-step : (x : Float) {a : Answer} → record { answer = a; state = s′ } ≡ Runs.step F s x → outcomes ≡ run F s′ calls → stepped a ∷ outcomes ≡ run F s (step x ∷ calls)
+  pub run-step : (x : Float) {a : Answer} → record { answer = a; state = s′ } ≡ Runs.step F s x → outcomes ≡ run F s′ calls → stepped a ∷ outcomes
+      ≡ run F s (step x ∷ calls)
   unfolding run outcome left
   run-step x e rest = ap₂ _∷_ (ap (λ (z : Runs.Step (F .State)). stepped (z .answer)) e) (rest ∙ ap (λ (z : Runs.Step (F .State)). run F (z .state) calls) e)
 
@@ -214,8 +223,10 @@ module _ (F : Filter) (s : F .State) {s′ : F .State} (calls : List Call) {outc
       → blocked refusal clouded output′ ∷ outcomes ≡ run F s (block input output ∷ calls)
   unfolding run outcome left
   run-block input output e rest =
-      ap₂ _∷_ (ap (λ (z : Runs.Block (F .State)). blocked (z .refusal) (z .clouded) (z .output)) e) (rest ∙ ap (λ (z : Runs.Block (F .State)). run F (z .state) calls) e)
+      ap₂ _∷_ (ap (λ (z : Runs.Block (F .State)). blocked (z .refusal) (z .clouded) (z .output)) e)
+      (rest ∙ ap (λ (z : Runs.Block (F .State)). run F (z .state) calls) e)
 
-  pub run-reset : {refusal : ℕ} → record { refusal = refusal; state = s′ } ≡ Runs.reset F s → outcomes ≡ run F s′ calls → wasReset refusal ∷ outcomes ≡ run F s (reset ∷ calls)
+  pub run-reset : {refusal : ℕ} → record { refusal = refusal; state = s′ } ≡ Runs.reset F s → outcomes ≡ run F s′ calls → wasReset refusal ∷ outcomes
+      ≡ run F s (reset ∷ calls)
   unfolding run outcome left
   run-reset e rest = ap₂ _∷_ (ap (λ (z : Runs.Reset (F .State)). wasReset (z .refusal)) e) (rest ∙ ap (λ (z : Runs.Reset (F .State)). run F (z .state) calls) e)

@@ -19,7 +19,8 @@ module _ (F : Filter) (s : F .State) where
   unfolding step
   step-refused x h = rw h
 
-  pub step-answered : (x : Float) {a : Answer} {s′ : F .State} → F .check s ≡ true → a ≡ answer F s x → s′ ≡ F .next s x → record { answer = a; state = s′ } ≡ step F s x
+  pub step-answered : (x : Float) {a : Answer} {s′ : F .State} → F .check s ≡ true → a ≡ answer F s x → s′ ≡ F .next s x → record { answer = a; state = s′ }
+      ≡ step F s x
   unfolding step
   step-answered x h e n = rw (h, e, n)
 
@@ -49,7 +50,12 @@ module _ (F : Filter) (s : F .State) where
   block-refused input output h = rw h
 
   pub block-is : (input output : List Float) → F .check s ≡ true → length input ≤ length output
-      → block F s input output ≡ record { refusal = 0; clouded = cloudedIn (answers F s input); state = after F s input; output = written (answers F s input) output }
+      → block F s input output ≡ record {
+        refusal = 0;
+        clouded = cloudedIn (answers F s input);
+        state = after F s input;
+        output = written (answers F s input) output;
+      }
   unfolding block
   block-is input output h l = rw (h, le-ltb (length output) (length input) l)
 
@@ -58,7 +64,8 @@ module _ (F : Filter) (s : F .State) where
   block-short input output h l = rw (h, lt-ltb (length output) (length input) l)
 
 -- an accepted reset returns a fresh record, if what a reset makes of a good record is fresh and no refusal has the number 0
-pub reset-fresh : (F : Filter) (s : F .State) → (F .refusal ≡ 0 → ⊥) → (F .check s ≡ true → Fresh F (F .cleared s)) → reset F s .refusal ≡ 0 → Fresh F (reset F s .state)
+pub reset-fresh : (F : Filter) (s : F .State) → (F .refusal ≡ 0 → ⊥) → (F .check s ≡ true → Fresh F (F .cleared s)) → reset F s .refusal ≡ 0
+    → Fresh F (reset F s .state)
 unfolding reset
 reset-fresh F s numbered fresh = go (F .check s) refl
   where
@@ -98,50 +105,54 @@ tallied-more : (b : Bool) (y : Float) (n m : ℕ) → tallied b n + m ≡ n + (c
 tallied-more true y n m = omega arith
 tallied-more false y n m = omega arith
 
-module _ (F : Filter) (keeps : (s : F .State) (x : Float) → F .check s ≡ true → F .check (F .next s x) ≡ true) (s₀ : F .State) (input output₀ : List Float) where
-  pub run-start : length input ≤ length output₀ → F .check s₀ ≡ true → Running F s₀ input output₀ s₀ output₀ 0 0
-  run-start h e = record {
-    within = omega arith;
-    room = h;
-    few = omega arith;
-    good = e;
-    state = refl;
-    count = rw zero-add;
-    places = refl;
-    same = refl;
-  }
+module _ (F : Filter) (keeps : (s : F .State) (x : Float) → F .check s ≡ true → F .check (F .next s x) ≡ true) (s₀ : F .State) (input output₀ : List Float)
+  where
+    pub run-start : length input ≤ length output₀ → F .check s₀ ≡ true → Running F s₀ input output₀ s₀ output₀ 0 0
+    run-start h e = record {
+      within = omega arith;
+      room = h;
+      few = omega arith;
+      good = e;
+      state = refl;
+      count = rw zero-add;
+      places = refl;
+      same = refl;
+    }
 
-  -- one sample: y is its number and b its mark
-  pub run-turn : {s s′ : F .State} {output : List Float} {clouded clouded′ i : ℕ} {y : Float} {b : Bool} → i < length input
-      → y ≡ F .value s (getD input i nan) → b ≡ F .mark s (getD input i nan) → s′ ≡ F .next s (getD input i nan) → clouded′ ≡ tallied b clouded
-      → Running F s₀ input output₀ s output clouded i → Running F s₀ input output₀ s′ (set output i y) clouded′ (i + 1)
-  unfolding cloudedIn written
-  run-turn {s} {s′} {output} {clouded} {clouded′} {i} {y} {b} h ey eb es ec p =
-      let x = getD input i nan in
-      let k : i < length output = omega (arith, p .room) in
-      let d = drop-cons input i nan h in
-      let o = drop-cons output i nan k in
-      let a = answers-cons F s x (drop (suc i) input) (p .good) in
-      record {
-        within = omega arith;
-        room = rw length-set (p .room);
-        few = rw ec (tallied-few b clouded i (p .few));
-        good = rw es (keeps s x (p .good));
-        state = rw (es, add-one) (sym (after-cons F s x (drop (suc i) input) (p .good)) ∙ (rw d at (p .state)));
-        count = rw (ec, es, add-one i) (tallied-more b y clouded (cloudedIn (answers F (F .next s x) (drop (suc i) input))) ∙ (rw (d, a, ← eb, ← ey) at (p .count)));
-        places = rw (es, add-one, take-suc-set output i y k, drop-set-lt (suc i) output i y (omega arith), append-assoc) (rw (d, o, a, ← eb, ← ey, placed-marked) at (p .places));
-        same = rw length-set (p .same);
-      }
+    -- one sample: y is its number and b its mark
+    pub run-turn : {s s′ : F .State} {output : List Float} {clouded clouded′ i : ℕ} {y : Float} {b : Bool} → i < length input
+        → y ≡ F .value s (getD input i nan) → b ≡ F .mark s (getD input i nan) → s′ ≡ F .next s (getD input i nan) → clouded′ ≡ tallied b clouded
+        → Running F s₀ input output₀ s output clouded i → Running F s₀ input output₀ s′ (set output i y) clouded′ (i + 1)
+    unfolding cloudedIn written
+    run-turn {s} {s′} {output} {clouded} {clouded′} {i} {y} {b} h ey eb es ec p =
+        let x = getD input i nan in
+        let k : i < length output = omega (arith, p .room) in
+        let d = drop-cons input i nan h in
+        let o = drop-cons output i nan k in
+        let a = answers-cons F s x (drop (suc i) input) (p .good) in
+        record {
+          within = omega arith;
+          room = rw length-set (p .room);
+          few = rw ec (tallied-few b clouded i (p .few));
+          good = rw es (keeps s x (p .good));
+          state = rw (es, add-one) (sym (after-cons F s x (drop (suc i) input) (p .good)) ∙ (rw d at (p .state)));
+          count = rw (ec, es, add-one i) (tallied-more b y clouded (cloudedIn (answers F (F .next s x) (drop (suc i) input)))
+              ∙ (rw (d, a, ← eb, ← ey) at (p .count)));
+          places = rw (es, add-one, take-suc-set output i y k, drop-set-lt (suc i) output i y (omega arith), append-assoc)
+              (rw (d, o, a, ← eb, ← ey, placed-marked) at (p .places));
+          same = rw length-set (p .same);
+        }
 
-  pub run-done : {s : F .State} {output : List Float} {clouded i : ℕ} → length input ≤ i → F .check s₀ ≡ true → length input ≤ length output₀
-      → Running F s₀ input output₀ s output clouded i → _≡_ {A = Block (F .State)} (record { refusal = 0; clouded = clouded; state = s; output = output }) (block F s₀ input output₀)
-  unfolding answers after cloudedIn written block
-  run-done {s} {output} {clouded} {i} h e k p =
-      let z = drop-of-length-le input {i = i} h in
-      let l : s ≡ after F s₀ input = rw z at (p .state) in
-      let m : clouded ≡ cloudedIn (answers F s₀ input) = sym (add-zero clouded) ∙ (rw z at (p .count)) in
-      let o : output ≡ written (answers F s₀ input) output₀ = sym (take-append-drop i output) ∙ (rw z at (p .places)) in
-      rw (e, le-ltb (length output₀) (length input) k, ← l, ← m, ← o)
+    pub run-done : {s : F .State} {output : List Float} {clouded i : ℕ} → length input ≤ i → F .check s₀ ≡ true → length input ≤ length output₀
+        → Running F s₀ input output₀ s output clouded i → _≡_ {A = Block
+        (F .State)} (record { refusal = 0; clouded = clouded; state = s; output = output }) (block F s₀ input output₀)
+    unfolding answers after cloudedIn written block
+    run-done {s} {output} {clouded} {i} h e k p =
+        let z = drop-of-length-le input {i = i} h in
+        let l : s ≡ after F s₀ input = rw z at (p .state) in
+        let m : clouded ≡ cloudedIn (answers F s₀ input) = sym (add-zero clouded) ∙ (rw z at (p .count)) in
+        let o : output ≡ written (answers F s₀ input) output₀ = sym (take-append-drop i output) ∙ (rw z at (p .places)) in
+        rw (e, le-ltb (length output₀) (length input) k, ← l, ← m, ← o)
 
 number-marked : (b : Bool) (y : Float) → numberOf (marked b y) ≡ y
 number-marked true y = refl
@@ -156,8 +167,11 @@ pub step-parts : (F : Filter) (s : F .State) (x : Float) {a : Answer} {s′ : F 
     → (numberOf a ≡ F .value s x) × (isClouded a ≡ F .mark s x) × (s′ ≡ F .next s x)
 step-parts F s x {a} {s′} h e =
     let p = e ∙ step-is F s x h in
-    let q : a ≡ answer F s x = ap (λ (z : Step (F .State)). z .answer) p in
-    (ap numberOf q ∙ number-marked (F .mark s x) (F .value s x), ap isClouded q ∙ clouded-marked (F .mark s x) (F .value s x), ap (λ (z : Step (F .State)). z .state) p)
+    let q : a ≡ answer F s x = ap (λ (z : Step (F .State)). z .answer) p in (
+      ap numberOf q ∙ number-marked (F .mark s x) (F .value s x),
+      ap isClouded q ∙ clouded-marked (F .mark s x) (F .value s x),
+      ap (λ (z : Step (F .State)). z .state) p,
+    )
 
 -- ---- single steps over an input, of any record: sample i is next, and the answers so far stand in the output
 pub record Stepping (F : Filter) (s₀ : F .State) (input output₀ : List Float) (s : F .State) (output : List Float) (i : ℕ) : Type 0 where
@@ -169,7 +183,8 @@ module _ (F : Filter) (s₀ : F .State) (input output₀ : List Float) where
   steps-start = record { same = refl; places = refl }
 
   pub steps-turn : {s s′ : F .State} {output : List Float} {i : ℕ} {a : Answer} {y : Float} → i < length input → i < length output
-      → record { answer = a; state = s′ } ≡ step F s (getD input i nan) → y ≡ placed a (getD output i nan) → Stepping F s₀ input output₀ s output i → Stepping F s₀ input output₀ s′ (set output i y) (i + 1)
+      → record { answer = a; state = s′ } ≡ step F s (getD input i nan) → y ≡ placed a (getD output i nan) → Stepping F s₀ input output₀ s output i
+      → Stepping F s₀ input output₀ s′ (set output i y) (i + 1)
   unfolding answers written
   steps-turn {s} {s′} {output} {i} {a} {y} h k e ey p =
       let d = drop-cons input i nan h in
@@ -179,7 +194,8 @@ module _ (F : Filter) (s₀ : F .State) (input output₀ : List Float) where
         places = rw (add-one, take-suc-set output i y k, drop-set-lt (suc i) output i y (omega arith), append-assoc) (rw (d, o, ← e, ← ey) at (p .places));
       }
 
-  pub steps-done : {s : F .State} {output : List Float} {i : ℕ} → length input ≤ i → Stepping F s₀ input output₀ s output i → output ≡ written (answers F s₀ input) output₀
+  pub steps-done : {s : F .State} {output : List Float} {i : ℕ} → length input ≤ i → Stepping F s₀ input output₀ s output i → output
+      ≡ written (answers F s₀ input) output₀
   unfolding answers written
   steps-done {s} {output} {i} h p =
       let z = drop-of-length-le input {i = i} h in
@@ -244,16 +260,24 @@ written-append [] b output h = refl
 written-append (x ∷ a) b [] h = absurd (omega arith)
 written-append (x ∷ a) b (y ∷ output) h = ap (λ (l : List Float). placed x y ∷ l) (written-append a b output (omega arith))
 
-module _ (F : Filter) (keeps : (s : F .State) (x : Float) → F .check s ≡ true → F .check (F .next s x) ≡ true) (s : F .State) (input output₀ : List Float) (k : ℕ)
+module _ (F : Filter) (keeps : (s : F .State) (x : Float) → F .check s ≡ true → F .check (F .next s x) ≡ true) (s : F .State) (input output₀ : List Float)
+    (k : ℕ)
     (good : F .check s ≡ true) (within : k ≤ length input) (room : length input ≤ length output₀) where
   -- what a block of the first k samples returns
   pub front-is : block F s (take k input) output₀
-      ≡ record { refusal = 0; clouded = cloudedIn (answers F s (take k input)); state = after F s (take k input); output = written (answers F s (take k input)) output₀ }
+      ≡ record {
+        refusal = 0;
+        clouded = cloudedIn (answers F s (take k input));
+        state = after F s (take k input);
+        output = written (answers F s (take k input)) output₀;
+      }
   front-is = block-is F s (take k input) output₀ good (rw (length-take) (omega arith))
 
   -- and the rest behind it
-  pub block-parts : {s₁ s₂ : F .State} {output₁ output₂ : List Float} {c₁ c₂ : ℕ} → record { refusal = 0; clouded = c₁; state = s₁; output = output₁ } ≡ block F s (take k input) output₀
-      → c₂ ≡ cloudedIn (answers F s₁ (drop k input)) → s₂ ≡ after F s₁ (drop k input) → output₂ ≡ take k output₁ ++ written (answers F s₁ (drop k input)) (drop k output₁)
+  pub block-parts : {s₁ s₂ : F .State} {output₁ output₂ : List Float} {c₁ c₂ : ℕ} → record { refusal = 0; clouded = c₁; state = s₁; output = output₁ }
+      ≡ block F s (take k input) output₀
+      → c₂ ≡ cloudedIn (answers F s₁ (drop k input)) → s₂ ≡ after F s₁ (drop k input) → output₂
+      ≡ take k output₁ ++ written (answers F s₁ (drop k input)) (drop k output₁)
       → _≡_ {A = Block (F .State)} (record { refusal = 0; clouded = c₁ + c₂; state = s₂; output = output₂ }) (block F s input output₀)
   unfolding block
   block-parts {s₁} {s₂} {output₁} {output₂} {c₁} {c₂} e ec es eo =
@@ -265,8 +289,10 @@ module _ (F : Filter) (keeps : (s : F .State) (x : Float) → F .check s ≡ tru
       let c : c₁ ≡ cloudedIn a = ap (λ (b : Block (F .State)). b .clouded) q in
       let t : s₁ ≡ after F s xs = ap (λ (b : Block (F .State)). b .state) q in
       let o : output₁ ≡ written a output₀ = ap (λ (b : Block (F .State)). b .output) q in
-      let whole : answers F s input ≡ a ++ answers F s₁ ys = ap (answers F s) (sym (take-append-drop k input)) ∙ answers-append F keeps s xs ys ∙ ap (λ (r : F .State). a ++ answers F r ys) (sym t) in
-      let last : after F s input ≡ s₂ = ap (after F s) (sym (take-append-drop k input)) ∙ after-append F keeps s xs ys ∙ ap (λ (r : F .State). after F r ys) (sym t) ∙ sym es in
+      let whole : answers F s input ≡ a ++ answers F s₁ ys = ap (answers F s) (sym (take-append-drop k input)) ∙ answers-append F keeps s xs ys
+      ∙ ap (λ (r : F .State). a ++ answers F r ys) (sym t) in
+      let last : after F s input ≡ s₂ = ap (after F s) (sym (take-append-drop k input)) ∙ after-append F keeps s xs ys
+      ∙ ap (λ (r : F .State). after F r ys) (sym t) ∙ sym es in
       let count : cloudedIn (answers F s input) ≡ c₁ + c₂ = ap cloudedIn whole ∙ clouded-append a (answers F s₁ ys) ∙ ap₂ _+_ (sym c) (sym ec) in
       let places : written (answers F s input) output₀ ≡ output₂ =
       ap (λ (l : List Answer). written l output₀) whole ∙ written-append a (answers F s₁ ys) output₀ (omega (arith, la))
@@ -274,11 +300,22 @@ module _ (F : Filter) (keeps : (s : F .State) (x : Float) → F .check s ≡ tru
       rw (good, le-ltb (length output₀) (length input) room, count, last, places)
 
   -- the counts of both parts are no more than the samples
-  pub parts-few : {s₁ : F .State} {output₁ : List Float} {c₁ c₂ : ℕ} → record { refusal = 0; clouded = c₁; state = s₁; output = output₁ } ≡ block F s (take k input) output₀
+  pub parts-few : {s₁ : F .State} {output₁ : List Float} {c₁ c₂ : ℕ} → record { refusal = 0; clouded = c₁; state = s₁; output = output₁ }
+      ≡ block F s (take k input) output₀
       → c₂ ≡ cloudedIn (answers F s₁ (drop k input)) → c₁ + c₂ ≤ length input
   parts-few {s₁} {output₁} {c₁} {c₂} e ec =
       let a : c₁ ≡ cloudedIn (answers F s (take k input)) = ap (λ (b : Block (F .State)). b .clouded) (e ∙ front-is) in
-      omega (arith, a, ec, few-clouded (answers F s (take k input)), few-clouded (answers F s₁ (drop k input)), answers-length F keeps s (take k input), answers-length F keeps s₁ (drop k input), length-take k input, length-drop k input)
+      omega (
+        arith,
+        a,
+        ec,
+        few-clouded (answers F s (take k input)),
+        few-clouded (answers F s₁ (drop k input)),
+        answers-length F keeps s (take k input),
+        answers-length F keeps s₁ (drop k input),
+        length-take k input,
+        length-drop k input,
+      )
 
 -- ---- a block whose samples are taken some at a time
 
@@ -289,42 +326,47 @@ written-split [] b (y ∷ front) back h = absurd (omega (arith, h))
 written-split (x ∷ a) b [] back h = absurd (omega (arith, h))
 written-split (x ∷ a) b (y ∷ front) back h = ap (λ (l : List Float). placed x y ∷ l) (written-split a b front back (omega (arith, h)))
 
-module _ (F : Filter) (keeps : (s : F .State) (x : Float) → F .check s ≡ true → F .check (F .next s x) ≡ true) (s₀ : F .State) (input output₀ : List Float) where
-  -- n samples from sample i on, as a block of their own over their places, which hold ys after it
-  pub run-part : {s s′ : F .State} {output ys : List Float} {refusal clouded c i : ℕ} (n : ℕ) → i + n ≤ length input
-      → record { refusal = refusal; clouded = c; state = s′; output = ys } ≡ block F s (take n (drop i input)) (take n (drop i output))
-      → Running F s₀ input output₀ s output clouded i → Running F s₀ input output₀ s′ (take i output ++ ys ++ drop (i + n) output) (clouded + c) (i + n)
-  run-part {s} {s′} {output} {ys} {refusal} {clouded} {c} {i} n h e p =
-      let xs = take n (drop i input) in
-      let os = take n (drop i output) in
-      let lx : length xs ≡ n = rw (length-take, length-drop) (omega arith) in
-      let lo : length os ≡ n = rw (length-take, length-drop) (omega (arith, p .room)) in
-      let q = e ∙ block-is F s xs os (p .good) (omega (arith, lx, lo)) in
-      let a = answers F s xs in
-      let la : length a ≡ n = answers-length F keeps s xs ∙ lx in
-      let ec : c ≡ cloudedIn a = ap (λ (b : Block (F .State)). b .clouded) q in
-      let es : s′ ≡ after F s xs = ap (λ (b : Block (F .State)). b .state) q in
-      let ey : ys ≡ written a os = ap (λ (b : Block (F .State)). b .output) q in
-      let ly : length ys ≡ n = ap length ey ∙ written-length a os ∙ lo in
-      let rest = drop (i + n) input in
-      let behind = drop (i + n) output in
-      let b = answers F s′ rest in
-      let split : (l : List Float) → drop i l ≡ take n (drop i l) ++ drop (i + n) l = λ l. sym (take-append-drop n (drop i l)) ∙ ap (λ (t : List Float). take n (drop i l) ++ t) (drop-drop n i l) in
-      let all : answers F s (drop i input) ≡ a ++ b = ap (answers F s) (split input) ∙ answers-append F keeps s xs rest ∙ ap (λ (t : F .State). a ++ answers F t rest) (sym es) in
-      let first = take i output ++ ys in
-      let lf : length first ≡ i + n = rw (length-append, length-take) (omega (arith, ly, p .room)) in
-      let same-length : length (take i output ++ ys ++ behind) ≡ length output = rw (length-append, lf, length-drop) (omega (arith, p .room)) in
-      record {
-        within = h;
-        room = rw same-length (p .room);
-        few = omega (arith, p .few, ec, few-clouded a, la);
-        good = rw es (check-after F keeps s xs (p .good));
-        state = ap (λ (t : F .State). after F t rest) es ∙ sym (after-append F keeps s xs rest) ∙ ap (after F s) (sym (split input)) ∙ p .state;
-        count =
-            let sum : cloudedIn (answers F s (drop i input)) ≡ c + cloudedIn b = ap cloudedIn all ∙ clouded-append a b ∙ ap (λ (z : ℕ). z + cloudedIn b) (sym ec) in
-            omega (arith, sum, p .count);
-        places =
-            rw (take-at first behind (i + n) lf, drop-at first behind (i + n) lf, append-assoc)
-            (ap (λ (t : List Float). take i output ++ t) (ap (λ (t : List Float). t ++ written b behind) ey ∙ sym (written-split a b os behind (la ∙ sym lo)) ∙ sym (ap₂ written all (split output))) ∙ p .places);
-        same = same-length ∙ p .same;
-      }
+module _ (F : Filter) (keeps : (s : F .State) (x : Float) → F .check s ≡ true → F .check (F .next s x) ≡ true) (s₀ : F .State) (input output₀ : List Float)
+  where
+    -- n samples from sample i on, as a block of their own over their places, which hold ys after it
+    pub run-part : {s s′ : F .State} {output ys : List Float} {refusal clouded c i : ℕ} (n : ℕ) → i + n ≤ length input
+        → record { refusal = refusal; clouded = c; state = s′; output = ys } ≡ block F s (take n (drop i input)) (take n (drop i output))
+        → Running F s₀ input output₀ s output clouded i → Running F s₀ input output₀ s′ (take i output ++ ys ++ drop (i + n) output) (clouded + c) (i + n)
+    run-part {s} {s′} {output} {ys} {refusal} {clouded} {c} {i} n h e p =
+        let xs = take n (drop i input) in
+        let os = take n (drop i output) in
+        let lx : length xs ≡ n = rw (length-take, length-drop) (omega arith) in
+        let lo : length os ≡ n = rw (length-take, length-drop) (omega (arith, p .room)) in
+        let q = e ∙ block-is F s xs os (p .good) (omega (arith, lx, lo)) in
+        let a = answers F s xs in
+        let la : length a ≡ n = answers-length F keeps s xs ∙ lx in
+        let ec : c ≡ cloudedIn a = ap (λ (b : Block (F .State)). b .clouded) q in
+        let es : s′ ≡ after F s xs = ap (λ (b : Block (F .State)). b .state) q in
+        let ey : ys ≡ written a os = ap (λ (b : Block (F .State)). b .output) q in
+        let ly : length ys ≡ n = ap length ey ∙ written-length a os ∙ lo in
+        let rest = drop (i + n) input in
+        let behind = drop (i + n) output in
+        let b = answers F s′ rest in
+        let split : (l : List Float) → drop i l ≡ take n (drop i l) ++ drop (i + n) l = λ l. sym (take-append-drop n (drop i l))
+        ∙ ap (λ (t : List Float). take n (drop i l) ++ t) (drop-drop n i l) in
+        let all : answers F s (drop i input) ≡ a ++ b = ap (answers F s) (split input) ∙ answers-append F keeps s xs rest
+        ∙ ap (λ (t : F .State). a ++ answers F t rest) (sym es) in
+        let first = take i output ++ ys in
+        let lf : length first ≡ i + n = rw (length-append, length-take) (omega (arith, ly, p .room)) in
+        let same-length : length (take i output ++ ys ++ behind) ≡ length output = rw (length-append, lf, length-drop) (omega (arith, p .room)) in
+        record {
+          within = h;
+          room = rw same-length (p .room);
+          few = omega (arith, p .few, ec, few-clouded a, la);
+          good = rw es (check-after F keeps s xs (p .good));
+          state = ap (λ (t : F .State). after F t rest) es ∙ sym (after-append F keeps s xs rest) ∙ ap (after F s) (sym (split input)) ∙ p .state;
+          count =
+              let sum : cloudedIn (answers F s (drop i input))
+              ≡ c + cloudedIn b = ap cloudedIn all ∙ clouded-append a b ∙ ap (λ (z : ℕ). z + cloudedIn b) (sym ec) in
+              omega (arith, sum, p .count);
+          places =
+              rw (take-at first behind (i + n) lf, drop-at first behind (i + n) lf, append-assoc)
+              (ap (λ (t : List Float). take i output ++ t) (ap (λ (t : List Float). t ++ written b behind) ey ∙ sym (written-split a b os behind (la ∙ sym lo))
+              ∙ sym (ap₂ written all (split output))) ∙ p .places);
+          same = same-length ∙ p .same;
+        }

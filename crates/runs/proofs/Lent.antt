@@ -54,25 +54,30 @@ module _ (F : Filter) (fits : F .State → Bool) (s : F .State) where
   lent-block input output h = rw h
 
   -- a refusal
-  pub lent-step-refused : (x : Float) {n : ℕ} → n ≡ lentRefusal F fits s → (n ≡ 0 → ⊥) → _≡_ {A = Step (F .State)} (record { answer = refused n; state = s }) (lentStep F fits s x)
+  pub lent-step-refused : (x : Float) {n : ℕ} → n ≡ lentRefusal F fits s → (n ≡ 0 → ⊥)
+      → _≡_ {A = Step (F .State)} (record { answer = refused n; state = s }) (lentStep F fits s x)
   unfolding lentRefusal lentStep step
   lent-step-refused x {n} e h = go (fits s) (F .check s) refl refl e
     where
-      go : (a b : Bool) → fits s ≡ a → F .check s ≡ b → n ≡ cond a (cond b 0 (F .refusal)) BadCall → _≡_ {A = Step (F .State)} (record { answer = refused n; state = s }) (lentStep F fits s x)
+      go : (a b : Bool) → fits s ≡ a → F .check s ≡ b → n ≡ cond a (cond b 0 (F .refusal)) BadCall
+          → _≡_ {A = Step (F .State)} (record { answer = refused n; state = s }) (lentStep F fits s x)
       go true true p q e = absurd (h e)
       go true false p q e = rw (p, q, e)
       go false b p q e = rw (p, e)
 
-  pub lent-reset-refused : {n : ℕ} → n ≡ lentRefusal F fits s → (n ≡ 0 → ⊥) → _≡_ {A = Reset (F .State)} (record { refusal = n; state = s }) (lentReset F fits s)
+  pub lent-reset-refused : {n : ℕ} → n ≡ lentRefusal F fits s → (n ≡ 0 → ⊥)
+      → _≡_ {A = Reset (F .State)} (record { refusal = n; state = s }) (lentReset F fits s)
   unfolding lentRefusal lentReset reset
   lent-reset-refused {n} e h = go (fits s) (F .check s) refl refl e
     where
-      go : (a b : Bool) → fits s ≡ a → F .check s ≡ b → n ≡ cond a (cond b 0 (F .refusal)) BadCall → _≡_ {A = Reset (F .State)} (record { refusal = n; state = s }) (lentReset F fits s)
+      go : (a b : Bool) → fits s ≡ a → F .check s ≡ b → n ≡ cond a (cond b 0 (F .refusal)) BadCall
+          → _≡_ {A = Reset (F .State)} (record { refusal = n; state = s }) (lentReset F fits s)
       go true true p q e = absurd (h e)
       go true false p q e = rw (p, q, e)
       go false b p q e = rw (p, e)
 
-  pub lent-block-refused : (input output : List Float) {n : ℕ} → n ≡ lentRefusal F fits s → (n ≡ 0 → ⊥) → refusedBlock n s output ≡ lentBlock F fits s input output
+  pub lent-block-refused : (input output : List Float) {n : ℕ} → n ≡ lentRefusal F fits s → (n ≡ 0 → ⊥) → refusedBlock n s output
+      ≡ lentBlock F fits s input output
   unfolding lentRefusal lentBlock block
   lent-block-refused input output {n} e h = go (fits s) (F .check s) refl refl e
     where
@@ -100,9 +105,11 @@ module _ (F : Filter) (fits : F .State → Bool) (s : F .State) where
   step-keeps x {a} {t} e h = go (fits s) (F .check s) refl refl
     where
       go : (b d : Bool) → fits s ≡ b → F .check s ≡ d → t ≡ s
-      go true true p q = let z : _≡_ {A = Step (F .State)} (record { answer = a; state = t }) (record { answer = answer F s x; state = F .next s x }) = e ∙ rw (p, q) in
+      go true true p q = let z : _≡_ {A = Step (F .State)} (record { answer = a; state = t }) (record { answer = answer F s x; state = F .next s x }) = e
+          ∙ rw (p, q) in
           absurd (h (ap (λ (w : Step (F .State)). refusalOf (w .answer)) z ∙ marked-accepted (F .mark s x) (F .value s x)))
-      go true false p q = let z : _≡_ {A = Step (F .State)} (record { answer = a; state = t }) (record { answer = refused (F .refusal); state = s }) = e ∙ rw (p, q) in
+      go true false p q = let z : _≡_ {A = Step (F .State)} (record { answer = a; state = t }) (record { answer = refused (F .refusal); state = s }) = e
+          ∙ rw (p, q) in
           ap (λ (w : Step (F .State)). w .state) z
       go false d p q = let z : _≡_ {A = Step (F .State)} (record { answer = a; state = t }) (record { answer = refused BadCall; state = s }) = e ∙ rw p in
           ap (λ (w : Step (F .State)). w .state) z
@@ -112,16 +119,21 @@ module _ (F : Filter) (fits : F .State → Bool) (s : F .State) where
   reset-keeps {n} {t} e h = go (fits s) (F .check s) refl refl
     where
       go : (b d : Bool) → fits s ≡ b → F .check s ≡ d → t ≡ s
-      go true true p q = let z : _≡_ {A = Reset (F .State)} (record { refusal = n; state = t }) (record { refusal = 0; state = F .cleared s }) = e ∙ rw (p, q) in absurd (h (ap (λ (w : Reset (F .State)). w .refusal) z))
-      go true false p q = let z : _≡_ {A = Reset (F .State)} (record { refusal = n; state = t }) (record { refusal = F .refusal; state = s }) = e ∙ rw (p, q) in ap (λ (w : Reset (F .State)). w .state) z
-      go false d p q = let z : _≡_ {A = Reset (F .State)} (record { refusal = n; state = t }) (record { refusal = BadCall; state = s }) = e ∙ rw p in ap (λ (w : Reset (F .State)). w .state) z
+      go true true p q = let z : _≡_ {A = Reset (F .State)} (record { refusal = n; state = t }) (record { refusal = 0; state = F .cleared s }) = e
+          ∙ rw (p, q) in absurd (h (ap (λ (w : Reset (F .State)). w .refusal) z))
+      go true false p q = let z : _≡_ {A = Reset (F .State)} (record { refusal = n; state = t }) (record { refusal = F .refusal; state = s }) = e ∙ rw (p, q) in
+          ap (λ (w : Reset (F .State)). w .state) z
+      go false d p q = let z : _≡_ {A = Reset (F .State)} (record { refusal = n; state = t }) (record { refusal = BadCall; state = s }) = e ∙ rw p in
+          ap (λ (w : Reset (F .State)). w .state) z
 
-  pub block-keeps : (input output : List Float) {n c : ℕ} {t : F .State} {o : List Float} → record { refusal = n; clouded = c; state = t; output = o } ≡ lentBlock F fits s input output → (n ≡ 0 → ⊥)
+  pub block-keeps : (input output : List Float) {n c : ℕ} {t : F .State} {o : List Float} → record { refusal = n; clouded = c; state = t; output = o }
+      ≡ lentBlock F fits s input output → (n ≡ 0 → ⊥)
       → (t ≡ s) × (o ≡ output)
   unfolding lentBlock block
   block-keeps input output {n} {c} {t} {o} e h = go (fits s) (F .check s) (ltb (length output) (length input)) refl refl refl
     where
-      same : {m : ℕ} → _≡_ {A = Block (F .State)} (record { refusal = n; clouded = c; state = t; output = o }) (refusedBlock m s output) → (t ≡ s) × (o ≡ output)
+      same : {m : ℕ} → _≡_ {A = Block (F .State)} (record { refusal = n; clouded = c; state = t; output = o }) (refusedBlock m s output) → (t ≡ s)
+          × (o ≡ output)
       same z = (ap (λ (w : Block (F .State)). w .state) z, ap (λ (w : Block (F .State)). w .output) z)
 
       go : (b d l : Bool) → fits s ≡ b → F .check s ≡ d → ltb (length output) (length input) ≡ l → (t ≡ s) × (o ≡ output)
@@ -129,7 +141,12 @@ module _ (F : Filter) (fits : F .State → Bool) (s : F .State) where
       go true true false p q r = absurd (h (ap (λ (w : Block (F .State)). w .refusal) (e ∙ accepted (p, q, r))))
         where
           accepted : (fits s ≡ true) × (F .check s ≡ true) × (ltb (length output) (length input) ≡ false)
-              → lentBlock F fits s input output ≡ record { refusal = 0; clouded = cloudedIn (answers F s input); state = after F s input; output = written (answers F s input) output }
+              → lentBlock F fits s input output ≡ record {
+                refusal = 0;
+                clouded = cloudedIn (answers F s input);
+                state = after F s input;
+                output = written (answers F s input) output;
+              }
           accepted g = rw (g .0, g .1, g .2)
       go true false l p q r = same {m = F .refusal} (e ∙ rw (p, q))
       go false d l p q r = same {m = BadCall} (e ∙ rw p)

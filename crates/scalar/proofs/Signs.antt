@@ -36,7 +36,8 @@ abs-zero (fin s (suc m) e) f t =
     absurd
     (lt-irrefl 0
     (lt-of-lt-of-le (mul-pos (mul-pos (zero-lt-suc m) (up-pos e)) (pow-pos 0))
-    (le-of-eq (eqb→eq (suc m * up e * 1) (0 * down e) (and-l (eqb (suc m * up e * 1) (0 * down e)) (Bool·beq s false || eqb (suc m * up e * 1) 0) (subst T (sym t) tt)) ∙ zero-mul (down e)))))
+    (le-of-eq (eqb→eq (suc m * up e * 1) (0 * down e) (and-l (eqb (suc m * up e * 1) (0 * down e)) (Bool·beq s false || eqb (suc m * up e * 1) 0)
+    (subst T (sym t) tt)) ∙ zero-mul (down e)))))
 
 pub abs-pos : (x : Float) → T (fits binary64 x) → lt x (ofBits binary64 0) ≡ false → eq x (ofBits binary64 0) ≡ false → x ≡ absOf x
 unfolding lt eq absOf ofBits fits

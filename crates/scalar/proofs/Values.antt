@@ -30,7 +30,8 @@ rescale (inf t) s w l a c p h v = v
 rescale (fin t m e) s w l a c p h v = (
   v .0,
   eq-of-mul-eq-mul-right l p (m * up e * c) (a * down e)
-      (mul-right-comm (m * up e) c l ∙ ap (λ (z : ℕ). z * c) (v .1) ∙ mul-right-comm w (down e) c ∙ ap (λ (z : ℕ). z * down e) (sym h) ∙ mul-right-comm a l (down e)),
+      (mul-right-comm (m * up e) c l ∙ ap (λ (z : ℕ). z * c) (v .1) ∙ mul-right-comm w (down e) c ∙ ap (λ (z : ℕ). z * down e) (sym h)
+      ∙ mul-right-comm a l (down e)),
 )
 
 -- ---- a - b, of two natural numbers

@@ -18,6 +18,7 @@ module _ (F : Filter) (n : ℕ) (s : F .State) (input output : List Float) where
   unfolding stepsOf
   steps-short h k = rw (eq-eqb n 0 h, lt-ltb (length output) (length input) k)
 
-  pub steps-ran : {o : List Float} → n ≡ 0 → length input ≤ length output → o ≡ written (answers F s input) output → record { refusal = Accepted; output = o } ≡ stepsOf F n s input output
+  pub steps-ran : {o : List Float} → n ≡ 0 → length input ≤ length output → o ≡ written (answers F s input) output → record { refusal = Accepted; output = o }
+      ≡ stepsOf F n s input output
   unfolding stepsOf
   steps-ran h k e = rw (eq-eqb n 0 h, le-ltb (length output) (length input) k, e)

@@ -20,7 +20,8 @@ pub record Stepped : Type 0 where
 unfoldable pub stepsOf : (F : Filter) → ℕ → F .State → List Float → List Float → Stepped
 stepsOf F n s input output =
     cond (eqb n Accepted)
-    (cond (ltb (length output) (length input)) (record { refusal = ShortOutput; output = output }) (record { refusal = Accepted; output = written (answers F s input) output }))
+    (cond (ltb (length output) (length input)) (record { refusal = ShortOutput; output = output })
+    (record { refusal = Accepted; output = written (answers F s input) output }))
     (record { refusal = n; output = output })
 
 -- through a Butterworth low pass

@@ -39,7 +39,8 @@ put-whole output₀ at text n e h p = (rw (e, le-leb (at + n) (length output₀)
 -- ---- the loop that puts bytes: the first i are in place, and the others are still to come
 abbrev pub Putting : List ℕ → ℕ → List ℕ → List ℕ → ℕ → Type 0
 Putting output₀ at text output i =
-    (length output ≡ length output₀) × (take (at + i) output ++ (drop i text ++ drop (at + length text) output) ≡ take at output₀ ++ (text ++ drop (at + length text) output₀))
+    (length output ≡ length output₀) × (take (at + i) output ++ (drop i text ++ drop (at + length text) output)
+    ≡ take at output₀ ++ (text ++ drop (at + length text) output₀))
 
 pub put-start : (output : List ℕ) (at : ℕ) (text : List ℕ) → Putting output at text output 0
 put-start output at text = (refl, rw (add-zero))
@@ -67,7 +68,8 @@ length-digits base (suc k) n = rw (length-append, length-digits base k (n / base
 
 abbrev pub Printing : List ℕ → ℕ → ℕ → ℕ → ℕ → List ℕ → ℕ → ℕ → Type 0
 Printing output₀ at base k n output i rest =
-    (length output ≡ length output₀) × (take at output ++ (digitsOf base i rest ++ drop (at + i) output) ≡ take at output₀ ++ (digitsOf base k n ++ drop (at + k) output₀))
+    (length output ≡ length output₀) × (take at output ++ (digitsOf base i rest ++ drop (at + i) output)
+    ≡ take at output₀ ++ (digitsOf base k n ++ drop (at + k) output₀))
 
 -- what stands from the place of a store on
 drop-set-same : (l : List ℕ) (i a : ℕ) → i < length l → drop i (set l i a) ≡ a ∷ drop (suc i) l

@@ -26,14 +26,17 @@ module _ (p q p′ q′ : ℕ) (h : 0 < q) (same : p * q′ ≡ p′ * q) where
   at-most : (a b : ℕ) → p * b ≤ a * q → p′ * b ≤ a * q′
   at-most a b l =
       le-of-mul-le-mul-right
-      (le-trans (le-of-eq (mul-right-comm p′ b q ∙ ap (λ (z : ℕ). z * b) (sym same) ∙ mul-right-comm p q′ b)) (le-trans (mul-le-mul-right q′ l) (le-of-eq (mul-right-comm a q q′)))) h
+      (le-trans (le-of-eq (mul-right-comm p′ b q ∙ ap (λ (z : ℕ). z * b) (sym same) ∙ mul-right-comm p q′ b))
+      (le-trans (mul-le-mul-right q′ l) (le-of-eq (mul-right-comm a q q′)))) h
 
   at-least : (a b : ℕ) → a * q ≤ p * b → a * q′ ≤ p′ * b
   at-least a b l =
       le-of-mul-le-mul-right
-      (le-trans (le-of-eq (mul-right-comm a q′ q)) (le-trans (mul-le-mul-right q′ l) (le-of-eq (mul-right-comm p b q′ ∙ ap (λ (z : ℕ). z * b) same ∙ mul-right-comm p′ q b)))) h
+      (le-trans (le-of-eq (mul-right-comm a q′ q)) (le-trans (mul-le-mul-right q′ l)
+      (le-of-eq (mul-right-comm p b q′ ∙ ap (λ (z : ℕ). z * b) same ∙ mul-right-comm p′ q b)))) h
 
-nearest-same : (f : Format) (p q p′ q′ : ℕ) (s : Bool) (r : Float) → 0 < q → 0 < q′ → p * q′ ≡ p′ * q → Nearest f (fraction p q) s r → Nearest f (fraction p′ q′) s r
+nearest-same : (f : Format) (p q p′ q′ : ℕ) (s : Bool) (r : Float) → 0 < q → 0 < q′ → p * q′ ≡ p′ * q → Nearest f (fraction p q) s r
+    → Nearest f (fraction p′ q′) s r
 nearest-same f p q p′ q′ s r h h′ e n = record {
   held = n .held;
   sign = n .sign;
@@ -57,7 +60,8 @@ quotient : (m : ℕ) (e : ℤ) (n k : ℕ) (r : Float) → 0 < n → Quotient bi
 quotient m e zero k r h d = absurd (omega arith)
 quotient m e (suc n) k r h d = d
 
-over-power : (x : Float) (v k : ℕ) → HasValue x false v 1 → k < 23 → Nearest binary64 (fraction v (10 ^ k)) false (div binary64 x (ofInt binary64 (pos (10 ^ k))))
+over-power : (x : Float) (v k : ℕ) → HasValue x false v 1 → k < 23
+    → Nearest binary64 (fraction v (10 ^ k)) false (div binary64 x (ofInt binary64 (pos (10 ^ k))))
 over-power nan v k h l = absurd h
 over-power (inf s) v k h l = absurd h
 over-power (fin s m e) v k h l =
@@ -65,11 +69,13 @@ over-power (fin s m e) v k h l =
     let P-pos : 0 < P = one-le-pow k 5 (omega arith) in
     let Q-pos : 0 < P * 2 ^ k * down e = mul-pos (mul-pos P-pos (pow-pos k)) (down-pos e) in
     let eq : m * up e * 1 * 10 ^ k ≡ v * (P * 2 ^ k * down e) =
-    ap (λ (z : ℕ). z * 10 ^ k) (h .1) ∙ mul-assoc v (down e) (10 ^ k) ∙ ap (λ (z : ℕ). v * z) (mul-comm (down e) (10 ^ k) ∙ ap (λ (z : ℕ). z * down e) (sym (ten k))) in
+    ap (λ (z : ℕ). z * 10 ^ k) (h .1) ∙ mul-assoc v (down e) (10 ^ k)
+    ∙ ap (λ (z : ℕ). v * z) (mul-comm (down e) (10 ^ k) ∙ ap (λ (z : ℕ). z * down e) (sym (ten k))) in
     nearest-same binary64 (m * up e * 1) (P * 2 ^ k * down e) v (10 ^ k) false _ Q-pos (one-le-pow k 10 (omega arith)) eq
     (quotient m e P k _ P-pos
     (subst (λ (y : Float). Quotient binary64 (fin false m e) (fin false P (pos k)) (div binary64 (fin s m e) y)) (sym (power-is k l))
-    (subst (λ (t : Bool). Quotient binary64 (fin false m e) (fin false P (pos k)) (div binary64 (fin t m e) (fin false P (pos k)))) (sym (h .0)) (div-correct binary64 (fin false m e) (fin false P (pos k))))))
+    (subst (λ (t : Bool). Quotient binary64 (fin false m e) (fin false P (pos k)) (div binary64 (fin t m e) (fin false P (pos k)))) (sym (h .0))
+    (div-correct binary64 (fin false m e) (fin false P (pos k))))))
 
 -- ---- a decimal that is accepted
 and-both : (a b : Bool) → (a && b) ≡ true → (a ≡ true) × (b ≡ true)
@@ -99,10 +105,12 @@ decimal-nearest whole places x = go (leb 1 (length whole) && (ltb digits (10 ^ 1
     y : Float
     y = div binary64 (ofInt binary64 (pos digits)) (ofInt binary64 (pos (10 ^ k)))
 
-    go : (b : Bool) → (leb 1 (length whole) && (ltb digits (10 ^ 15) && leb k 22)) ≡ b → cond b (Number y) NotANumber ≡ Number x → Nearest binary64 (fraction digits (10 ^ k)) false x
+    go : (b : Bool) → (leb 1 (length whole) && (ltb digits (10 ^ 15) && leb k 22)) ≡ b → cond b (Number y) NotANumber ≡ Number x
+        → Nearest binary64 (fraction digits (10 ^ k)) false x
     go true e h =
         let c = and-both (ltb digits (10 ^ 15)) (leb k 22) (and-both (leb 1 (length whole)) (ltb digits (10 ^ 15) && leb k 22) e .1) in
         let small : digits < 10 ^ 15 = ltb-true digits (10 ^ 15) (c .0) in
         let few : k ≤ 22 = leb-true k 22 (c .1) in
-        subst (λ (z : Float). Nearest binary64 (fraction digits (10 ^ k)) false z) (ap (numberOr nan) h) (over-power (ofInt binary64 (pos digits)) digits k (round-whole binary64 false digits (omega (arith, small))) (omega arith))
+        subst (λ (z : Float). Nearest binary64 (fraction digits (10 ^ k)) false z) (ap (numberOr nan) h)
+        (over-power (ofInt binary64 (pos digits)) digits k (round-whole binary64 false digits (omega (arith, small))) (omega arith))
     go false e h = absurd (false≢true (ap isNumber h))

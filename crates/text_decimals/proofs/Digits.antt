@@ -55,7 +55,8 @@ pub result-small : {r : ℕ} (b : ℕ) → r ≡ digit b → r ≤ 15
 result-small b e = omega (arith, e, digit-small b)
 
 -- ---- what digits write
-pub value-cons : (base n : ℕ) (ds : List ℕ) (i : ℕ) → i < length ds → valueAfter base n (drop i ds) ≡ valueAfter base (n * base + digit (getD ds i 0)) (drop (suc i) ds)
+pub value-cons : (base n : ℕ) (ds : List ℕ) (i : ℕ) → i < length ds → valueAfter base n (drop i ds)
+    ≡ valueAfter base (n * base + digit (getD ds i 0)) (drop (suc i) ds)
 unfolding valueAfter
 value-cons base n ds i h = rw (drop-cons ds i 0 h)
 
@@ -80,7 +81,8 @@ value-less base c n [] k h p l = le-mul-of-pos-right (n + c) (one-le-pow k base 
 value-less base c n (d ∷ ds) zero h p l = absurd (omega arith)
 value-less base c n (d ∷ ds) (suc k) h p l =
     let step : n * base + digit d + c ≤ (n + c) * base = rw (add-mul n c base) (omega (arith, digit-small d)) in
-    le-trans (value-less base c (n * base + digit d) ds k h p (omega arith)) (le-trans (mul-le-mul-right (base ^ k) step) (le-of-eq (mul-assoc (n + c) base (base ^ k) ∙ ap (λ (z : ℕ). (n + c) * z) (sym (pow-succ' base k)))))
+    le-trans (value-less base c (n * base + digit d) ds k h p (omega arith))
+    (le-trans (mul-le-mul-right (base ^ k) step) (le-of-eq (mul-assoc (n + c) base (base ^ k) ∙ ap (λ (z : ℕ). (n + c) * z) (sym (pow-succ' base k)))))
 
 -- ---- decimal digits, capped: the loop at place i
 abbrev pub limit : ℕ
@@ -99,7 +101,8 @@ capped n (d ∷ ds) =
 abbrev pub Capping : ℕ → List ℕ → ℕ → ℕ → Type 0
 Capping n ds value i = (value ≤ limit) × (min (valueAfter 10 value (drop i ds)) limit ≡ min (valueAfter 10 n ds) limit)
 
-pub cap-turn : (n : ℕ) (ds : List ℕ) (value i : ℕ) {v : ℕ} → i < length ds → v ≡ min (value * 10 + digit (getD ds i 0)) limit → Capping n ds value i → Capping n ds v (i + 1)
+pub cap-turn : (n : ℕ) (ds : List ℕ) (value i : ℕ) {v : ℕ} → i < length ds → v ≡ min (value * 10 + digit (getD ds i 0)) limit → Capping n ds value i
+    → Capping n ds v (i + 1)
 cap-turn n ds value i {v} h e r =
     let w = value * 10 + digit (getD ds i 0) in
     (omega arith, rw (add-one, e) (capped w (drop (suc i) ds) ∙ ap (λ (z : ℕ). min z limit) (sym (value-cons 10 value ds i h)) ∙ r .1))
@@ -114,11 +117,13 @@ unfolding runEnd inClass
 digits-run token from = refl
 
 -- all bytes of a token from a place on are of a kind where the run reaches the end
-pub all-from : (p : ℕ → Bool) (token : List ℕ) (from e : ℕ) → e ≡ from + leading p (drop from token) → from ≤ length token → e ≡ length token → all p (drop from token) ≡ true
+pub all-from : (p : ℕ → Bool) (token : List ℕ) (from e : ℕ) → e ≡ from + leading p (drop from token) → from ≤ length token → e ≡ length token
+    → all p (drop from token) ≡ true
 unfolding all
 all-from p token from e r h q = eq-eqb (leading p (drop from token)) (length (drop from token)) (rw (length-drop) (omega arith))
 
-pub not-all-from : (p : ℕ → Bool) (token : List ℕ) (from e : ℕ) → e ≡ from + leading p (drop from token) → from ≤ length token → (e ≡ length token → ⊥) → all p (drop from token) ≡ false
+pub not-all-from : (p : ℕ → Bool) (token : List ℕ) (from e : ℕ) → e ≡ from + leading p (drop from token) → from ≤ length token → (e ≡ length token → ⊥)
+    → all p (drop from token) ≡ false
 unfolding all
 not-all-from p token from e r h q = ne-eqb (leading p (drop from token)) (length (drop from token)) (λ z. q (omega (arith, z, length-drop from token)))
 
@@ -152,9 +157,11 @@ module _ (whole fraction : List ℕ) where
 
   -- what the two loops read
   both-read : {a v : ℕ} → a ≡ min (valueAfter 10 0 whole) limit → v ≡ min (valueAfter 10 a fraction) limit → v ≡ min (valueAfter 10 0 (whole ++ fraction)) limit
-  both-read {a} {v} f g = g ∙ ap (λ (z : ℕ). min (valueAfter 10 z fraction) limit) f ∙ capped (valueAfter 10 0 whole) fraction ∙ ap (λ (z : ℕ). min z limit) (sym (value-append 10 0 whole fraction))
+  both-read {a} {v} f g = g ∙ ap (λ (z : ℕ). min (valueAfter 10 z fraction) limit) f ∙ capped (valueAfter 10 0 whole) fraction
+      ∙ ap (λ (z : ℕ). min z limit) (sym (value-append 10 0 whole fraction))
 
-  pub decimal-long : {a v : ℕ} → a ≡ min (valueAfter 10 0 whole) limit → v ≡ min (valueAfter 10 a fraction) limit → limit ≤ v → NotANumber ≡ decimal whole fraction
+  pub decimal-long : {a v : ℕ} → a ≡ min (valueAfter 10 0 whole) limit → v ≡ min (valueAfter 10 a fraction) limit → limit ≤ v → NotANumber
+      ≡ decimal whole fraction
   unfolding decimal
   decimal-long {a} {v} f g h =
       let l : limit ≤ valueAfter 10 0 (whole ++ fraction) = omega (arith, both-read f g) in
@@ -164,7 +171,8 @@ module _ (whole fraction : List ℕ) where
   unfolding decimal
   decimal-deep h = rw (lt-leb (length fraction) 22 h, and-false, and-false)
 
-  pub decimal-is : {a v : ℕ} {x y : Float} → 1 ≤ length whole → a ≡ min (valueAfter 10 0 whole) limit → v ≡ min (valueAfter 10 a fraction) limit → v < limit → length fraction ≤ 22
+  pub decimal-is : {a v : ℕ} {x y : Float} → 1 ≤ length whole → a ≡ min (valueAfter 10 0 whole) limit → v ≡ min (valueAfter 10 a fraction) limit → v < limit
+      → length fraction ≤ 22
       → x ≡ ofInt binary64 (pos v) → y ≡ ofInt binary64 (pos (10 ^ length fraction)) → Number (div binary64 x y) ≡ decimal whole fraction
   unfolding decimal
   decimal-is {a} {v} h f g l k ex ey =

@@ -72,7 +72,8 @@ module _ (token : List ℕ) (n : ℕ) (run : n ≡ runEnd (inClass Digit) token 
       let l : length (drop (suc n) token) < 1 = simp length-drop (omega arith) in
       rw (← first-run, split h, lt-leb 1 (length (drop (suc n) token)) l, and-false, and-false)
 
-  pub unsigned-is : {e : ℕ} → n < length token → getD token n 0 ≡ 46 → e ≡ runEnd (inClass Digit) token (n + 1) → e ≡ length token → n + 1 < e → decimal (take n token) (take (length token - (n + 1)) (drop (n + 1) token)) ≡ unsigned token
+  pub unsigned-is : {e : ℕ} → n < length token → getD token n 0 ≡ 46 → e ≡ runEnd (inClass Digit) token (n + 1) → e ≡ length token → n + 1 < e
+      → decimal (take n token) (take (length token - (n + 1)) (drop (n + 1) token)) ≡ unsigned token
   unfolding unsigned afterWhole
   unsigned-is {e} h p r q k =
       let a = all-from isDigit token (n + 1) e (r ∙ digits-run token (n + 1)) (omega arith) q in
@@ -105,6 +106,7 @@ module _ (token : List ℕ) where
   unfolding floatOf
   float-letters {e} l r q = rw (not-all-from isHexDigit token 0 e (r ∙ hex-run token 0) (omega arith) (λ z. q (z ∙ l)), and-false)
 
-  pub float-bits : {e b : ℕ} {x : Float} → length token ≡ 16 → e ≡ runEnd (inClass HexDigit) token 0 → e ≡ 16 → b ≡ valueAfter 16 0 token → x ≡ ofBits binary64 b → Number x ≡ floatOf token
+  pub float-bits : {e b : ℕ} {x : Float} → length token ≡ 16 → e ≡ runEnd (inClass HexDigit) token 0 → e ≡ 16 → b ≡ valueAfter 16 0 token → x
+      ≡ ofBits binary64 b → Number x ≡ floatOf token
   unfolding floatOf
   float-bits {e} l r q f g = rw (eq-eqb (length token) 16 l, all-from isHexDigit token 0 e (r ∙ hex-run token 0) (omega arith) (q ∙ sym l), g, f)

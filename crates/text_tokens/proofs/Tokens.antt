@@ -19,11 +19,16 @@ module _ (p : ℕ → Bool) (bytes : List ℕ) where
 
   pub run-turn : (from i : ℕ) → i < length bytes → p (getD bytes i 0) ≡ true → Running from i → Running from (i + 1)
   unfolding runEnd leading
-  run-turn from i h e r = let d = drop-cons bytes i 0 h in rw (add-one) (omega (arith, sym (ap (λ (l : List ℕ). i + leading p l) d) ∙ r, ap (λ (b : Bool). cond b (suc (leading p (drop (suc i) bytes))) 0) e))
+  run-turn from i h e r = let d = drop-cons bytes i 0 h in rw (add-one) (omega
+      (arith, sym (ap (λ (l : List ℕ). i + leading p l) d) ∙ r, ap (λ (b : Bool). cond b (suc (leading p (drop (suc i) bytes))) 0) e))
 
   pub run-found : (from i : ℕ) → i < length bytes → p (getD bytes i 0) ≡ false → Running from i → i ≡ runEnd p bytes from
   unfolding runEnd leading
-  run-found from i h e r = let d = drop-cons bytes i 0 h in omega (arith, sym (ap (λ (l : List ℕ). i + leading p l) d) ∙ r, ap (λ (b : Bool). cond b (suc (leading p (drop (suc i) bytes))) 0) e)
+  run-found from i h e r = let d = drop-cons bytes i 0 h in omega (
+    arith,
+    sym (ap (λ (l : List ℕ). i + leading p l) d) ∙ r,
+    ap (λ (b : Bool). cond b (suc (leading p (drop (suc i) bytes))) 0) e,
+  )
 
   pub run-done : (from i : ℕ) → length bytes ≤ i → Running from i → i ≡ runEnd p bytes from
   unfolding runEnd leading
@@ -34,7 +39,8 @@ module _ (a b : List ℕ) where
   abbrev pub Comparing : ℕ → Type 0
   Comparing i = sameBytes (drop i a) (drop i b) ≡ sameBytes a b
 
-  same-more : (i : ℕ) → i < length a → length a ≡ length b → sameBytes (drop i a) (drop i b) ≡ (eqb (getD a i 0) (getD b i 0) && sameBytes (drop (suc i) a) (drop (suc i) b))
+  same-more : (i : ℕ) → i < length a → length a ≡ length b → sameBytes (drop i a) (drop i b)
+      ≡ (eqb (getD a i 0) (getD b i 0) && sameBytes (drop (suc i) a) (drop (suc i) b))
   unfolding sameBytes
   same-more i h e = rw (drop-cons a i 0 h, drop-cons b i 0 (omega arith))
 

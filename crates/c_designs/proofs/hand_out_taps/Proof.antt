@@ -16,7 +16,9 @@ use borrow.Author.Needs.{needs}
 use Rattle.c_designs.proofs.hand_out_taps.Statement.{statement}
 use Rattle.c_designs.proofs.hand_out_taps.Tie as tie
 
-places : (e : tie.Else1) → tapsPlaces (e .before .before .before .before .before .before .before .before .args .taps .now) (e .before .before .before .before .before .before .before .before .args .samples .now) (e .before .before .before .before .before .before .before .before .args .counts .now) ≡ true
+places : (e : tie.Else1) → tapsPlaces (e .before .before .before .before .before .before .before .before .args .taps .now)
+    (e .before .before .before .before .before .before .before .before .args .samples .now)
+    (e .before .before .before .before .before .before .before .before .args .counts .now) ≡ true
 places e = sym (e .before .has-tap-places .ensures) ∙ not-false _ (e .if1 .left)
 
 taps-are : (s : tie.Start) → length (s .args .m .filter .taps) ≡ maxTaps
@@ -29,7 +31,8 @@ returns : tie.Need-returns
 returns c = made-unfit _ _ _ _ (sym (c .before .has-tap-places .ensures) ∙ not-true _ (c .if1 .taken))
 
 returns-2 : tie.Need-returns-2
-returns-2 c = made-refused (madeView (c .before .before .before .before .before .before .before .before .before .args .m)) _ _ _ (places (c .before)) (c .if2 .taken)
+returns-2 c = let at-start : tie.Start = search in
+    made-refused (madeView (at-start .args .m)) _ _ _ (places (c .before)) (c .if2 .taken)
 
 returns-3 : tie.Need-returns-3
 unfolding tapsCounts
@@ -50,23 +53,7 @@ returns-3 c =
 pub hand-out-taps-spec : {M : Type 1} → statement M
 hand-out-taps-spec =
     tie.close
-    (tie.spec
-    (λ c κs. search needs)
-    (λ c. search needs)
-    (λ c. search needs)
-    (λ c. search needs)
-    returns
-    (λ c. search needs)
-    (λ c. search needs)
-    (λ c. search needs)
-    returns-2
-    (λ c. search needs)
-    (λ c κs. search needs)
-    (λ c. search needs)
-    (λ c κs. search needs)
-    (λ c. search needs)
-    (λ c κs. search needs)
-    (λ c. search needs)
-    (λ c. search needs)
-    (λ c. search needs)
-    returns-3)
+    (tie.spec (λ c κs. search needs) (λ c. search needs) (λ c. search needs) (λ c. search needs) returns
+    (λ c. search needs) (λ c. search needs) (λ c. search needs) returns-2
+    (λ c. search needs) (λ c κs. search needs) (λ c. search needs) (λ c κs. search needs) (λ c. search needs) (λ c κs. search needs)
+    (λ c. search needs) (λ c. search needs) (λ c. search needs) returns-3)

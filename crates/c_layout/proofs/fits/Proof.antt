@@ -33,12 +33,4 @@ returns-3 : tie.Need-returns-3
 returns-3 c = fits-last _ _ (places (c .before .before .before)) (le-leb _ _ (c .before .if2 .left))
 
 pub fits-spec : {M : Type 1} → statement M
-fits-spec =
-    tie.close
-    (tie.spec
-    (λ c κs. search needs)
-    returns
-    shared-slice-read-if2
-    returns-2
-    shared-slice-read-result
-    returns-3)
+fits-spec = tie.close (tie.spec (λ c κs. search needs) returns shared-slice-read-if2 returns-2 shared-slice-read-result returns-3)

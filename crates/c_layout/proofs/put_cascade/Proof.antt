@@ -10,20 +10,17 @@ use Rattle.c_layout.proofs.put_cascade.Tie as tie
 
 returns : tie.Need-returns
 unfolding cascadeNumbers cascadeCounts
-returns c = let s = c .before .before .before .before .before .before .before .before .before .before .before .before .before .before .before .before .before .before in (
-  first-written (s .args .numbers .now) (sectionsNumbers (map sectionView (s .args .c .sections))) (firstNumbers (firstView (s .args .c .first))) (s .pre .0) refl (c .before .before .before .before .before .before .before .before .before .before .before .before .before .put-sections .ensures) (c .before .before .before .before .before .before .before .before .before .before .before .before .numbers .given ∙ s .pre .0) (c .before .before .before .before .before .before .before .before .put-first .ensures),
-  rw (← c .before .before .before .before .flag .ensures, ← c .before .before .before .flag2 .ensures) (c .before .before .set-counts .ensures),
-)
+returns c = let after-put-first : tie.After-put-first = search in
+    let after-numbers : tie.After-numbers = search in
+    let after-put-sections : tie.After-put-sections = search in
+    let s : tie.Start = search in (
+      first-written (s .args .numbers .now) (sectionsNumbers (map sectionView (s .args .c .sections))) (firstNumbers (firstView (s .args .c .first)))
+          (s .pre .0) refl (after-put-sections .put-sections .ensures) (after-numbers .numbers .given ∙ s .pre .0) (after-put-first .put-first .ensures),
+      rw (← c .before .before .before .before .flag .ensures, ← c .before .before .before .flag2 .ensures) (c .before .before .set-counts .ensures),
+    )
 
 pub put-cascade-spec : {M : Type 1} → statement M
 put-cascade-spec =
     tie.close
-    (tie.spec
-    (λ c κs. search needs)
-    (λ c κs. search needs)
-    (λ c κs. search needs)
-    (λ c κs. search needs)
-    (λ c κs. search needs)
-    (λ c. search needs)
-    (λ c. search needs)
-    returns)
+    (tie.spec (λ c κs. search needs) (λ c κs. search needs) (λ c κs. search needs) (λ c κs. search needs) (λ c κs. search needs)
+    (λ c. search needs) (λ c. search needs) returns)

@@ -15,7 +15,8 @@ returns c = let a = c .before .before .args in
     (sym f, sym (cond-false (eqb (length (a .counts .now)) 3) (a .n0 ∷ a .n1 ∷ a .n2 ∷ []) (a .counts .now) f))
 
 returns-2 : tie.Need-returns-2
-returns-2 c = let a = c .before .before .before .before .before .before .args in
+returns-2 c = let start : tie.Start = search in
+    let a = start .args in
     let t = eq-eqb (length (a .counts .now)) 3 (c .before .before .before .before .if1 .left) in
     (sym t, c .before .before .set-counts .ensures ∙ sym (cond-true (eqb (length (a .counts .now)) 3) (a .n0 ∷ a .n1 ∷ a .n2 ∷ []) (a .counts .now) t))
 

@@ -10,11 +10,4 @@ returns c = set-four _ 28 _ _ _ _ (omega (arith, c .pre))
 
 pub put-first-spec : {M : Type 1} → statement M
 put-first-spec =
-    tie.close
-    (tie.spec
-    (λ c. search needs)
-    (λ c. search needs)
-    (λ c. search needs)
-    (λ c. search needs)
-    (λ c. search needs)
-    returns)
+    tie.close (tie.spec (λ c. search needs) (λ c. search needs) (λ c. search needs) (λ c. search needs) (λ c. search needs) returns)

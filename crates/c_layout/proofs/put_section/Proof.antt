@@ -30,26 +30,7 @@ returns c = set-seven _ (c .args .at) _ _ _ _ _ _ _ (omega (arith, c .pre))
 pub put-section-spec : {M : Type 1} → statement M
 put-section-spec =
     tie.close
-    (tie.spec
-    (λ c. search needs)
-    (λ c. search needs)
-    (λ c. search needs)
-    (λ c. search needs)
-    slice-write-numbers-2
-    (λ c. search needs)
-    (λ c. search needs)
-    slice-write-numbers-3
-    (λ c. search needs)
-    (λ c. search needs)
-    slice-write-numbers-4
-    (λ c. search needs)
-    (λ c. search needs)
-    slice-write-numbers-5
-    (λ c. search needs)
-    (λ c. search needs)
-    slice-write-numbers-6
-    (λ c. search needs)
-    (λ c. search needs)
-    slice-write-numbers-7
-    (λ c. search needs)
-    returns)
+    (tie.spec (λ c. search needs) (λ c. search needs) (λ c. search needs) (λ c. search needs) slice-write-numbers-2
+    (λ c. search needs) (λ c. search needs) slice-write-numbers-3 (λ c. search needs) (λ c. search needs) slice-write-numbers-4
+    (λ c. search needs) (λ c. search needs) slice-write-numbers-5 (λ c. search needs) (λ c. search needs) slice-write-numbers-6
+    (λ c. search needs) (λ c. search needs) slice-write-numbers-7 (λ c. search needs) returns)

@@ -8,6 +8,4 @@ returns : tie.Need-returns
 returns c = set-three (c .args .counts .now) _ _ _ (c .pre)
 
 pub set-counts-spec : {M : Type 1} → statement M
-set-counts-spec =
-    tie.close
-    (tie.spec (λ c. search needs) (λ c. search needs) (λ c. search needs) (λ c. search needs) returns)
+set-counts-spec = tie.close (tie.spec (λ c. search needs) (λ c. search needs) (λ c. search needs) (λ c. search needs) returns)

@@ -14,6 +14,4 @@ returns c = let s = c .before .before .before .before in
     four-places sectionView (s .args .t1) _ four
 
 pub by-name-spec : {M : Type 1} → statement M
-by-name-spec =
-    tie.close
-    (tie.spec (λ c. search needs) (λ c. search needs) (λ c. search needs) (λ c. search needs) returns)
+by-name-spec = tie.close (tie.spec (λ c. search needs) (λ c. search needs) (λ c. search needs) (λ c. search needs) returns)

@@ -31,7 +31,8 @@ forgotten taps samples counts calls outcomes l = go (tapsFit taps samples counts
     go true h =
         let r = tapsAt taps samples counts in
         let lengths = fits-lengths maxTaps r (taps-fit taps samples counts h) in
-        forgets-shown (fir maxTaps binary64) (plainFir binary64) tapsOf r calls (c-calls-run (firKind taps) (fir-read-back taps) l) (forgets maxTaps binary64 r (lengths .0) (lengths .1) calls)
+        forgets-shown (fir maxTaps binary64) (plainFir binary64) tapsOf r calls (c-calls-run (firKind taps) (fir-read-back taps) l)
+        (forgets maxTaps binary64 r (lengths .0) (lengths .1) calls)
     go false h = let p = c-calls-none (firKind taps) (fir-read-back taps) h l in rw (p .0, p .1) (none (tapsAt taps samples counts))
 
 returns : tie.Need-returns

@@ -13,7 +13,7 @@ use Rattle.limits.specs.Zero.{plusZero}
 use Rattle.cascade_theory.specs.Section.{SectionRecord}
 use Rattle.cascade_theory.specs.Cascade.{CascadeRecord}
 use Rattle.cascade.specs.View.{FreshCascade}
-use Rattle.fir_theory.specs.Fir.{TapsRecord, Made, ReadyMade, Blackman, blankTaps, holding, fromCoeffs}
+use Rattle.fir_theory.specs.Fir.{Made, ReadyMade, Blackman, blankTaps, holding, fromCoeffs}
 use Rattle.limits.specs.Limits.{maxTaps}
 use Rattle.fir_theory.specs.Lent.{fits}
 use Rattle.fir_theory.proofs.Laws.{sizes, lengths-fit}
@@ -52,10 +52,12 @@ cascade-made d four fresh numbers numbers′ counts counts′ e = go (cascadePla
   where
     done : Bool → Bool → Stored
     done a b =
-        cond a (cond b (record { refusal = Accepted; numbers = cascadeNumbers (d .cascade); counts = cascadeCounts (d .cascade) }) (notStored numbers counts (d .refusal)))
+        cond a (cond b (record { refusal = Accepted; numbers = cascadeNumbers (d .cascade); counts = cascadeCounts (d .cascade) })
+        (notStored numbers counts (d .refusal)))
         (notStored numbers counts BadCall)
 
-    go : (a b : Bool) → cascadePlaces numbers counts ≡ a → eqb (d .refusal) 0 ≡ b → (cascadeFits numbers′ counts′ ≡ true) × FreshCascade (cascadeAt numbers′ counts′)
+    go : (a b : Bool) → cascadePlaces numbers counts ≡ a → eqb (d .refusal) 0 ≡ b → (cascadeFits numbers′ counts′ ≡ true)
+        × FreshCascade (cascadeAt numbers′ counts′)
     go false b p q = absurd (bad (ap (λ (z : Stored). z .refusal) (e ∙ ap₂ done p q)))
       where
         bad : _≡_ {A = ℕ} 0 13 → ⊥
@@ -82,13 +84,17 @@ four-sections v c h = go (eqb v 0)
     go false = refl
 
 -- the designs of poles, and the band pass
-prototype-made : (v : ℕ) (p : Prototype) (n : ℕ) (d : DesignRecord) → d ≡ unlessRefused v (prototypeCascade p n) → (d .refusal ≡ 0 → FreshCascade (d .cascade)) → CascadeMade d
+prototype-made : (v : ℕ) (p : Prototype) (n : ℕ) (d : DesignRecord) → d ≡ unlessRefused v (prototypeCascade p n) → (d .refusal ≡ 0 → FreshCascade (d .cascade))
+    → CascadeMade d
 unfolding prototypeCascade
-prototype-made v p n d e fresh = cascade-made d (ap (λ (r : DesignRecord). length (r .cascade .sections)) e ∙ four-sections v (prototypeCascade p n) (padded-length 4 (upTo (pairOf p n) (n / 2)))) fresh
+prototype-made v p n d e fresh = cascade-made d (ap (λ (r : DesignRecord). length (r .cascade .sections)) e
+    ∙ four-sections v (prototypeCascade p n) (padded-length 4 (upTo (pairOf p n) (n / 2)))) fresh
 
-band-made : (v n : ℕ) (wl wh : Float) (d : DesignRecord) → d ≡ unlessRefused v (bpCascade n wl wh) → (d .refusal ≡ 0 → FreshCascade (d .cascade)) → CascadeMade d
+band-made : (v n : ℕ) (wl wh : Float) (d : DesignRecord) → d ≡ unlessRefused v (bpCascade n wl wh) → (d .refusal ≡ 0 → FreshCascade (d .cascade))
+    → CascadeMade d
 unfolding bpCascade
-band-made v n wl wh d e fresh = cascade-made d (ap (λ (r : DesignRecord). length (r .cascade .sections)) e ∙ four-sections v (bpCascade n wl wh) (padded-length 4 (bpSections n (wh ⊖ wl) (wl ⊗ wh)))) fresh
+band-made v n wl wh d e fresh = cascade-made d (ap (λ (r : DesignRecord). length (r .cascade .sections)) e
+    ∙ four-sections v (bpCascade n wl wh) (padded-length 4 (bpSections n (wh ⊖ wl) (wl ⊗ wh)))) fresh
 
 -- ---- tap records
 
@@ -108,10 +114,12 @@ taps-made m ts w is fresh taps taps′ samples samples′ counts counts′ e = g
   where
     done : Bool → Bool → TapsStored
     done a b =
-        cond a (cond b (record { refusal = Accepted; taps = m .filter .taps; samples = m .filter .samples; counts = tapsCounts (m .filter) }) (tapsUnchanged taps samples counts (m .refusal)))
+        cond a (cond b (record { refusal = Accepted; taps = m .filter .taps; samples = m .filter .samples; counts = tapsCounts (m .filter) })
+        (tapsUnchanged taps samples counts (m .refusal)))
         (tapsUnchanged taps samples counts BadCall)
 
-    go : (a b : Bool) → tapsPlaces taps samples counts ≡ a → eqb (m .refusal) 0 ≡ b → (tapsFit taps′ samples′ counts′ ≡ true) × FreshTaps (tapsAt taps′ samples′ counts′)
+    go : (a b : Bool) → tapsPlaces taps samples counts ≡ a → eqb (m .refusal) 0 ≡ b → (tapsFit taps′ samples′ counts′ ≡ true)
+        × FreshTaps (tapsAt taps′ samples′ counts′)
     go false b p q = absurd (bad (ap (λ (z : TapsStored). z .refusal) (e ∙ ap₂ done p q)))
       where
         bad : _≡_ {A = ℕ} 0 13 → ⊥
@@ -132,18 +140,22 @@ ready-is : (ts : List Float) → fromCoeffs maxTaps ts .refusal ≡ 0 → fromCo
 unfolding fromCoeffs
 ready-is ts = go (orderRefused (length ts) maxTaps)
   where
-    go : (b : Bool) → (let m : Made = cond b (record { refusal = InvalidOrder; filter = blankTaps maxTaps }) (record { refusal = Accepted; filter = holding maxTaps ts ReadyMade }) in m .refusal ≡ 0 → m .filter ≡ holding maxTaps ts ReadyMade)
+    go : (b : Bool) → (let m : Made = cond b (record { refusal = InvalidOrder; filter = blankTaps maxTaps })
+        (record { refusal = Accepted; filter = holding maxTaps ts ReadyMade }) in m .refusal ≡ 0 → m .filter ≡ holding maxTaps ts ReadyMade)
     go true e = absurd (one e)
       where
         one : _≡_ {A = ℕ} 1 0 → ⊥
         one e = omega arith
     go false e = refl
 
-designed-is : (n : ℕ) (cutoff : Float) (w : WindowType) → firLp n cutoff w .refusal ≡ 0 → firLp n cutoff w .filter ≡ holding maxTaps (firTaps w n cutoff) (codeOf w)
+designed-is : (n : ℕ) (cutoff : Float) (w : WindowType) → firLp n cutoff w .refusal ≡ 0 → firLp n cutoff w .filter
+    ≡ holding maxTaps (firTaps w n cutoff) (codeOf w)
 unfolding firLp
 designed-is n cutoff w = go (eqb (validateFir n cutoff) 0) refl
   where
-    go : (b : Bool) → eqb (validateFir n cutoff) 0 ≡ b → (let m : Made = cond b (record { refusal = Accepted; filter = holding maxTaps (firTaps w n cutoff) (codeOf w) }) (record { refusal = validateFir n cutoff; filter = blankTaps maxTaps }) in m .refusal ≡ 0 → m .filter ≡ holding maxTaps (firTaps w n cutoff) (codeOf w))
+    go : (b : Bool) → eqb (validateFir n cutoff) 0 ≡ b → (let m : Made = cond b
+        (record { refusal = Accepted; filter = holding maxTaps (firTaps w n cutoff) (codeOf w) })
+        (record { refusal = validateFir n cutoff; filter = blankTaps maxTaps }) in m .refusal ≡ 0 → m .filter ≡ holding maxTaps (firTaps w n cutoff) (codeOf w))
     go true e r = refl
     go false e r = absurd (eqb-false (validateFir n cutoff) 0 e r)
 
@@ -157,7 +169,8 @@ designed-made n cutoff window taps taps′ samples samples′ counts counts′ e
     go : (b : Bool) → leb window Blackman ≡ b → (tapsFit taps′ samples′ counts′ ≡ true) × FreshTaps (tapsAt taps′ samples′ counts′)
     go true p =
         let m = firLp n cutoff (windowOf window) in
-        taps-made m (firTaps (windowOf window) n cutoff) (codeOf (windowOf window)) (designed-is n cutoff (windowOf window)) (fir-fresh n cutoff (windowOf window)) taps taps′ samples samples′ counts counts′
+        taps-made m (firTaps (windowOf window) n cutoff) (codeOf (windowOf window)) (designed-is n cutoff (windowOf window))
+        (fir-fresh n cutoff (windowOf window)) taps taps′ samples samples′ counts counts′
         (e ∙ ap called p)
     go false p = absurd (bad (ap (λ (z : TapsStored). z .refusal) (e ∙ ap called p)))
       where
@@ -168,9 +181,12 @@ returns : tie.Need-returns
 unfolding butterworthLp butterworthHp chebyshev1Lp chebyshev2Lp butterworthBp
 returns c = record {
   lowPass = λ n cutoff rate. prototype-made (validateParams cutoff rate n) (ButterworthLow (warped cutoff rate)) n _ refl (butterworth-lp-fresh n cutoff rate);
-  highPass = λ n cutoff rate. prototype-made (validateParams cutoff rate n) (ButterworthHigh (warped cutoff rate)) n _ refl (butterworth-hp-fresh n cutoff rate);
-  chebyshevI = λ n cutoff db rate. prototype-made (validateChebyshev cutoff db rate n) (cheb1Prototype n db (warped cutoff rate)) n _ refl (chebyshev1-fresh n cutoff db rate);
-  chebyshevII = λ n cutoff db rate. prototype-made (validateChebyshev cutoff db rate n) (cheb2Prototype n db (warped cutoff rate)) n _ refl (chebyshev2-fresh n cutoff db rate);
+  highPass = λ n cutoff rate. prototype-made (validateParams cutoff rate n) (ButterworthHigh (warped cutoff rate)) n _ refl
+      (butterworth-hp-fresh n cutoff rate);
+  chebyshevI = λ n cutoff db rate. prototype-made (validateChebyshev cutoff db rate n) (cheb1Prototype n db (warped cutoff rate)) n _ refl
+      (chebyshev1-fresh n cutoff db rate);
+  chebyshevII = λ n cutoff db rate. prototype-made (validateChebyshev cutoff db rate n) (cheb2Prototype n db (warped cutoff rate)) n _ refl
+      (chebyshev2-fresh n cutoff db rate);
   bandPass = λ n low high rate. band-made (validateBand low high rate n) n (warped low rate) (warped high rate) _ refl (bandpass-fresh n low high rate);
   firLowPass = designed-made;
   readyMade = λ coeffs. taps-made (fromCoeffs maxTaps coeffs) coeffs ReadyMade (ready-is coeffs) (ready-made-fresh maxTaps binary64 coeffs);

@@ -30,7 +30,8 @@ returns c =
     let r = tapsView (c .args .start) in
     record {
       shows = λ calls outcomes l. shown l;
-      forgets = λ calls outcomes l. forgets-shown (fir maxTaps binary64) (plainFir binary64) tapsOf r calls (shown l) (forgets maxTaps binary64 r taps samples calls);
+      forgets = λ calls outcomes l. forgets-shown (fir maxTaps binary64) (plainFir binary64) tapsOf r calls (shown l)
+          (forgets maxTaps binary64 r taps samples calls);
     }
 
 pub fir-calls-forget-spec : {M : Type 1} → statement M

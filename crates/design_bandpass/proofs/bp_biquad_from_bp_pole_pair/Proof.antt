@@ -9,5 +9,4 @@ unfolding bpBiquad
 returns c = c .bp-biquad-from-sum-and-product .ensures
 
 pub bp-biquad-from-bp-pole-pair-spec : {M : Type 1} → statement M
-bp-biquad-from-bp-pole-pair-spec =
-    tie.close (tie.spec (λ c κs. search needs) returns)
+bp-biquad-from-bp-pole-pair-spec = tie.close (tie.spec (λ c κs. search needs) returns)

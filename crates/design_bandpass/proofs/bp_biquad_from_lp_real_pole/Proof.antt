@@ -14,11 +14,4 @@ returns-2 c = rw (c .bp-biquad-from-bp-pole-pair .ensures, c .before .sqrt2 .ens
 
 pub bp-biquad-from-lp-real-pole-spec : {M : Type 1} → statement M
 bp-biquad-from-lp-real-pole-spec =
-    tie.close
-    (tie.spec
-    (λ c κs. search needs)
-    (λ c κs. search needs)
-    returns
-    (λ c κs. search needs)
-    (λ c κs. search needs)
-    returns-2)
+    tie.close (tie.spec (λ c κs. search needs) (λ c κs. search needs) returns (λ c κs. search needs) (λ c κs. search needs) returns-2)

@@ -49,14 +49,15 @@ returns-2 : tie.Need-returns-2
 unfolding validateChebyshev
 returns-2 c = let d = c .before .before in
     let a = d .before .before .args in
-    rw (sym (c .before .not-positive .ensures) ∙ c .if2 .taken) (drew-none (a .cutoff) (a .sample-rate) (a .order) _ (sym (d .before .validate-params .ensures) ∙ d .if1 .left))
+    rw (sym (c .before .not-positive .ensures) ∙ c .if2 .taken)
+    (drew-none (a .cutoff) (a .sample-rate) (a .order) _ (sym (d .before .validate-params .ensures) ∙ d .if1 .left))
 
 returns-3 : tie.Need-returns-3
 unfolding validateChebyshev
 returns-3 c = let d = c .before .before in
     let a = d .before .before .args in
-    rw (sym (c .before .not-positive .ensures) ∙ c .if2 .left) (drew-none (a .cutoff) (a .sample-rate) (a .order) _ (sym (d .before .validate-params .ensures) ∙ d .if1 .left))
+    rw (sym (c .before .not-positive .ensures) ∙ c .if2 .left)
+    (drew-none (a .cutoff) (a .sample-rate) (a .order) _ (sym (d .before .validate-params .ensures) ∙ d .if1 .left))
 
 pub validate-chebyshev-spec : {M : Type 1} → statement M
-validate-chebyshev-spec =
-    tie.close (tie.spec (λ c κs. search needs) returns (λ c κs. search needs) returns-2 returns-3)
+validate-chebyshev-spec = tie.close (tie.spec (λ c κs. search needs) returns (λ c κs. search needs) returns-2 returns-3)

@@ -20,5 +20,4 @@ returns-3 c = let d = c .before .before in
     rw (sym (d .before .order-refused .ensures) ∙ d .if1 .left, sym (c .before .cutoff-refused .ensures) ∙ c .if2 .left)
 
 pub validate-fir-spec : {M : Type 1} → statement M
-validate-fir-spec =
-    tie.close (tie.spec (λ c κs. search needs) returns (λ c κs. search needs) returns-2 returns-3)
+validate-fir-spec = tie.close (tie.spec (λ c κs. search needs) returns (λ c κs. search needs) returns-2 returns-3)

@@ -18,22 +18,22 @@ returns-3 : tie.Need-returns-3
 unfolding validateParams
 returns-3 c = let e = c .before .before in
     let d = e .before .before in
-    rw (sym (d .before .order-refused .ensures) ∙ d .if1 .left, sym (e .before .not-positive .ensures) ∙ e .if2 .left, sym (c .before .cutoff-refused .ensures) ∙ c .if3 .taken)
+    rw (
+      sym (d .before .order-refused .ensures) ∙ d .if1 .left,
+      sym (e .before .not-positive .ensures) ∙ e .if2 .left,
+      sym (c .before .cutoff-refused .ensures) ∙ c .if3 .taken,
+    )
 
 returns-4 : tie.Need-returns-4
 unfolding validateParams
 returns-4 c = let e = c .before .before in
     let d = e .before .before in
-    rw (sym (d .before .order-refused .ensures) ∙ d .if1 .left, sym (e .before .not-positive .ensures) ∙ e .if2 .left, sym (c .before .cutoff-refused .ensures) ∙ c .if3 .left)
+    rw (
+      sym (d .before .order-refused .ensures) ∙ d .if1 .left,
+      sym (e .before .not-positive .ensures) ∙ e .if2 .left,
+      sym (c .before .cutoff-refused .ensures) ∙ c .if3 .left,
+    )
 
 pub validate-params-spec : {M : Type 1} → statement M
 validate-params-spec =
-    tie.close
-    (tie.spec
-    (λ c κs. search needs)
-    returns
-    (λ c κs. search needs)
-    returns-2
-    (λ c κs. search needs)
-    returns-3
-    returns-4)
+    tie.close (tie.spec (λ c κs. search needs) returns (λ c κs. search needs) returns-2 (λ c κs. search needs) returns-3 returns-4)

@@ -27,17 +27,12 @@ returns-2 : tie.Need-returns-2
 returns-2 c = let n = c .before in
     let e = n .before .before .before in
     let a = e .before .before .before .args in
-    fir-accepted (a .taps) (a .cutoff) (a .window) (e .before .before .validate-fir .ensures) (e .if1 .left) (ap (λ (r : TapsRecord). r .samples) (e .before .blank .ensures))
+    fir-accepted (a .taps) (a .cutoff) (a .window) (e .before .before .validate-fir .ensures) (e .if1 .left)
+    (ap (λ (r : TapsRecord). r .samples) (e .before .blank .ensures))
     (taps-done (a .window) (a .taps) maxTaps (a .cutoff) (n .before .windowed .ensures) (n .normalised .ensures)) (c .window-code .ensures)
 
 pub design-fir-lp-spec : {M : Type 1} → statement M
 design-fir-lp-spec =
     tie.close
-    (tie.spec
-    (λ c κs. search needs)
-    (λ c κs. search needs)
-    returns
-    windowed-requires
-    normalised-requires
-    (λ c κs. search needs)
-    returns-2)
+    (tie.spec (λ c κs. search needs) (λ c κs. search needs) returns windowed-requires
+    normalised-requires (λ c κs. search needs) returns-2)

@@ -13,8 +13,8 @@ returns c = let t = c .before in
 
 returns-2 : tie.Need-returns-2
 unfolding normalisedBy
-returns-2 c = rw (← c .before .before .sum-of .ensures, ← c .before .abs .ensures, c .if1 .left) (sym (take-append-drop (c .before .before .before .args .n) (c .before .before .before .args .coeffs)))
+returns-2 c = rw (← c .before .before .sum-of .ensures, ← c .before .abs .ensures, c .if1 .left)
+    (sym (take-append-drop (c .before .before .before .args .n) (c .before .before .before .args .coeffs)))
 
 pub normalised-spec : {M : Type 1} → statement M
-normalised-spec =
-    tie.close (tie.spec (λ c κs. search needs) (λ c κs. search needs) (λ c κs. search needs) returns returns-2)
+normalised-spec = tie.close (tie.spec (λ c κs. search needs) (λ c κs. search needs) (λ c κs. search needs) returns returns-2)

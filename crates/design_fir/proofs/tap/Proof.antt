@@ -24,11 +24,5 @@ returns c = rw (c .before .before .sinc .ensures, c .window-weight .ensures)
 pub tap-spec : {M : Type 1} → statement M
 tap-spec =
     tie.close
-    (tie.spec
-    int-to-float-i-f
-    (λ c. search needs)
-    int-to-float-m
-    (λ c κs. search needs)
-    int-to-float-window-weight
-    (λ c κs. search needs)
-    returns)
+    (tie.spec int-to-float-i-f (λ c. search needs) int-to-float-m (λ c κs. search needs) int-to-float-window-weight
+    (λ c κs. search needs) returns)

@@ -23,16 +23,6 @@ returns-4 c = rw (c .before .before .enum-told4 .given .1, c .before .cos3 .ensu
 pub window-weight-spec : {M : Type 1} → statement M
 window-weight-spec =
     tie.close
-    (tie.spec
-    (λ c. search needs)
-    (λ c. search needs)
-    (λ c κs. search needs)
-    (λ c. search needs)
-    (λ c κs. search needs)
-    (λ c. search needs)
-    (λ c κs. search needs)
-    (λ c κs. search needs)
-    returns
-    returns-2
-    returns-3
+    (tie.spec (λ c. search needs) (λ c. search needs) (λ c κs. search needs) (λ c. search needs) (λ c κs. search needs) (λ c. search needs)
+    (λ c κs. search needs) (λ c κs. search needs) returns returns-2 returns-3
     returns-4)

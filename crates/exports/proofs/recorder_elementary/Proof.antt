@@ -56,34 +56,26 @@ returns-12 c = rw (c .before .match .keys12, c .arcsinh .ensures)
 
 returns-13 : tie.Need-returns-13
 unfolding numbered Ieee.div Ieee.ofBits
-returns-13 c = let r = c .match .rest in rw (ne-eqb _ 0 (r .0 .0 .0 .0 .0 .0 .0 .0 .0 .0 .0 .1), ne-eqb _ 1 (r .0 .0 .0 .0 .0 .0 .0 .0 .0 .0 .1), ne-eqb _ 2 (r .0 .0 .0 .0 .0 .0 .0 .0 .0 .1), ne-eqb _ 3 (r .0 .0 .0 .0 .0 .0 .0 .0 .1), ne-eqb _ 4 (r .0 .0 .0 .0 .0 .0 .0 .1), ne-eqb _ 5 (r .0 .0 .0 .0 .0 .0 .1), ne-eqb _ 6 (r .0 .0 .0 .0 .0 .1), ne-eqb _ 7 (r .0 .0 .0 .0 .1), ne-eqb _ 8 (r .0 .0 .0 .1), ne-eqb _ 9 (r .0 .0 .1), ne-eqb _ 10 (r .0 .1), ne-eqb _ 11 (r .1))
+returns-13 c = let r = c .match .rest in rw (
+  ne-eqb _ 0 (r .0 .0 .0 .0 .0 .0 .0 .0 .0 .0 .0 .1),
+  ne-eqb _ 1 (r .0 .0 .0 .0 .0 .0 .0 .0 .0 .0 .1),
+  ne-eqb _ 2 (r .0 .0 .0 .0 .0 .0 .0 .0 .0 .1),
+  ne-eqb _ 3 (r .0 .0 .0 .0 .0 .0 .0 .0 .1),
+  ne-eqb _ 4 (r .0 .0 .0 .0 .0 .0 .0 .1),
+  ne-eqb _ 5 (r .0 .0 .0 .0 .0 .0 .1),
+  ne-eqb _ 6 (r .0 .0 .0 .0 .0 .1),
+  ne-eqb _ 7 (r .0 .0 .0 .0 .1),
+  ne-eqb _ 8 (r .0 .0 .0 .1),
+  ne-eqb _ 9 (r .0 .0 .1),
+  ne-eqb _ 10 (r .0 .1),
+  ne-eqb _ 11 (r .1),
+)
 
 pub recorder-elementary-spec : {M : Type 1} → statement M
 recorder-elementary-spec =
     tie.close
-    (tie.spec
-    (λ c κs. search needs)
-    (λ c κs. search needs)
-    (λ c κs. search needs)
-    (λ c κs. search needs)
-    (λ c κs. search needs)
-    (λ c κs. search needs)
-    (λ c κs. search needs)
-    (λ c κs. search needs)
-    (λ c κs. search needs)
-    (λ c κs. search needs)
-    (λ c κs. search needs)
-    (λ c κs. search needs)
-    returns
-    returns-2
-    returns-3
-    returns-4
-    returns-5
-    returns-6
-    returns-7
-    returns-8
-    returns-9
-    returns-10
-    returns-11
-    returns-12
-    returns-13)
+    (tie.spec (λ c κs. search needs) (λ c κs. search needs) (λ c κs. search needs) (λ c κs. search needs) (λ c κs. search needs)
+    (λ c κs. search needs) (λ c κs. search needs) (λ c κs. search needs) (λ c κs. search needs) (λ c κs. search needs)
+    (λ c κs. search needs) (λ c κs. search needs) returns returns-2 returns-3
+    returns-4 returns-5 returns-6 returns-7 returns-8 returns-9 returns-10
+    returns-11 returns-12 returns-13)

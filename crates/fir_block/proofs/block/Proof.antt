@@ -57,9 +57,11 @@ pass-some-requires c κs = let j = c .before .before in
     (g .0, g .1, omega (arith, first-is j), room j)
 
 returns-3 : tie.Need-returns-3
-returns-3 c = let j = c .before .before .before .before .before .before .before .before in
+returns-3 c = let after-pass-some : tie.After-pass-some = search in
+    let j : tie.Joined3 = search in
     let a = start (else1 j) .args in
-    c .before .before .before .before .before .pass-some .ensures ∙ ap (λ (l : List Float). block (fir maxTaps binary64) (lent-of (else1 j)) l (a .output .now)) (take-all (j .if3 .first) (a .input .now) (c .if4 .taken))
+    after-pass-some .pass-some .ensures ∙ ap (λ (l : List Float). block (fir maxTaps binary64) (lent-of (else1 j)) l (a .output .now))
+    (take-all (j .if3 .first) (a .input .now) (c .if4 .taken))
     ∙ sym (lent-block (fir maxTaps binary64) (fits maxTaps) _ _ _ (good (else1 j) .0))
 
 -- ---- the record after the first samples is full
@@ -67,10 +69,14 @@ abbrev joined : tie.Else4 → tie.Joined3
 joined q = q .before .before .before .before .before .before .before .before
 
 full : (q : tie.Else4)
-    → (checkTaps maxTaps (lentTaps (start (else1 (joined q)) .args .taps .now) (q .before .before .before .before .before .pass-some .last .1 .0) (start (else1 (joined q)) .args .n) (q .before .before .before .before .before .pass-some .result .held) (start (else1 (joined q)) .args .window)) ≡ true)
-    × (q .before .before .before .before .before .pass-some .result .held ≡ start (else1 (joined q)) .args .n) × (length (q .before .before .before .before .before .pass-some .last .1 .1 .1 .1 .1 .1 .1 .0) ≡ length (start (else1 (joined q)) .args .output .now))
+    → (checkTaps maxTaps (lentTaps (start (else1 (joined q)) .args .taps .now) (q .before .before .before .before .before .pass-some .last .1 .0)
+    (start (else1 (joined q)) .args .n) (q .before .before .before .before .before .pass-some .result .held) (start (else1 (joined q)) .args .window))
+    ≡ true)
+    × (q .before .before .before .before .before .pass-some .result .held ≡ start (else1 (joined q)) .args .n)
+    × (length (q .before .before .before .before .before .pass-some .last .1 .1 .1 .1 .1 .1 .1 .0) ≡ length (start (else1 (joined q)) .args .output .now))
 full q = let j = joined q in
-    front-full maxTaps binary64 (lent-of (else1 j)) _ _ (j .if3 .first) (good (else1 j) .1) (omega (arith, first-is j)) (room j) (omega (arith, first-is j, q .if4 .left)) (q .before .before .before .before .before .pass-some .ensures)
+    front-full maxTaps binary64 (lent-of (else1 j)) _ _ (j .if3 .first) (good (else1 j) .1) (omega (arith, first-is j)) (room j)
+    (omega (arith, first-is j, q .if4 .left)) (q .before .before .before .before .before .pass-some .ensures)
 
 pass-all-requires : tie.Need-pass-all-requires
 pass-all-requires c κs = let q = c .before .before in
@@ -85,40 +91,33 @@ abbrev rest : tie.After-pass-all → tie.Else4
 rest a = a .before .before .before
 
 both : (a : tie.After-pass-all)
-    → (rest a .before .before .before .before .before .pass-some .result .clouded + a .pass-all .result ≤ length (start (else1 (joined (rest a))) .args .input .now))
+    → (rest a .before .before .before .before .before .pass-some .result .clouded + a .pass-all .result ≤ length
+    (start (else1 (joined (rest a))) .args .input .now))
     × (ranBlock (rest a .before .before .before .before .before .pass-some .result .clouded + a .pass-all .result)
-    (lentTaps (start (else1 (joined (rest a))) .args .taps .now) (a .pass-all .last .1 .0) (start (else1 (joined (rest a))) .args .n) (rest a .before .before .before .before .before .pass-some .result .held) (start (else1 (joined (rest a))) .args .window))
+    (lentTaps (start (else1 (joined (rest a))) .args .taps .now) (a .pass-all .last .1 .0) (start (else1 (joined (rest a))) .args .n)
+    (rest a .before .before .before .before .before .pass-some .result .held) (start (else1 (joined (rest a))) .args .window))
     (a .pass-all .last .1 .1 .1 .1 .1 .0)
-    ≡ block (fir maxTaps binary64) (lent-of (else1 (joined (rest a)))) (start (else1 (joined (rest a))) .args .input .now) (start (else1 (joined (rest a))) .args .output .now))
+    ≡ block (fir maxTaps binary64) (lent-of (else1 (joined (rest a)))) (start (else1 (joined (rest a))) .args .input .now)
+    (start (else1 (joined (rest a))) .args .output .now))
 both a = let j = joined (rest a) in
     let f = full (rest a) in
-    parts-join (lent-of (else1 j)) _ _ (j .if3 .first) (good (else1 j) .1) (omega (arith, first-is j)) (room j) (rest a .before .before .before .before .before .pass-some .ensures) (f .0) (f .1) (a .pass-all .ensures)
+    parts-join (lent-of (else1 j)) _ _ (j .if3 .first) (good (else1 j) .1) (omega (arith, first-is j)) (room j)
+    (rest a .before .before .before .before .before .pass-some .ensures) (f .0) (f .1) (a .pass-all .ensures)
 
 add-t17 : tie.Need-add-t17
-add-t17 c = let s = c .before .before .before .before .before .before .before .before .before .before .before .before .before .before .before .before .before .before .before .before .before .before .before .before .before in
-    let few : c .before .before .before .before .before .before .before .before .before .before .before .before .before .pass-some .result .clouded + c .before .before .before .before .before .pass-all .result ≤ length (s .args .input .now) = both (c .before .before .before .before .before) .0 in
+add-t17 c = let a : tie.After-pass-all = search in
+    let q = rest a in
+    let s = start (else1 (joined q)) in
+    let few : q .before .before .before .before .before .pass-some .result .clouded + a .pass-all .result ≤ length (s .args .input .now) = both a .0 in
     omega arith
 
 returns-4 : tie.Need-returns-4
-returns-4 c = let a = c .before .before .before .before .before in
+returns-4 c = let a : tie.After-pass-all = search in
     both a .1 ∙ sym (lent-block (fir maxTaps binary64) (fits maxTaps) _ _ _ (good (else1 (joined (a .before .before .before))) .0))
 
 pub block-spec : {M : Type 1} → statement M
 block-spec =
     tie.close
-    (tie.spec
-    (λ c κs. search needs)
-    (λ c. search needs)
-    returns
-    (λ c. search needs)
-    returns-2
-    sub-missing
-    pass-some-requires
-    (λ c. search needs)
-    (λ c. search needs)
-    returns-3
-    pass-all-requires
-    add-t17
-    (λ c. search needs)
-    (λ c. search needs)
-    returns-4)
+    (tie.spec (λ c κs. search needs) (λ c. search needs) returns (λ c. search needs) returns-2
+    sub-missing pass-some-requires (λ c. search needs) (λ c. search needs) returns-3
+    pass-all-requires add-t17 (λ c. search needs) (λ c. search needs) returns-4)

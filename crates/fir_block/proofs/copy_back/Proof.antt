@@ -27,17 +27,5 @@ returns c = back-done _ _ _ (c .loop-test .left) (c .before .loop .inv)
 pub copy-back-spec : {M : Type 1} → statement M
 copy-back-spec =
     tie.close
-    (tie.spec
-    Inv-loop
-    μ-loop
-    loop-holds
-    (λ c. omega arith)
-    (λ c. search needs)
-    (λ c. omega arith)
-    (λ c. search needs)
-    (λ c. omega arith)
-    (λ c. search needs)
-    (λ c. search needs)
-    loop-again
-    same-length
-    returns)
+    (tie.spec Inv-loop μ-loop loop-holds (λ c. omega arith) (λ c. search needs) (λ c. omega arith) (λ c. search needs) (λ c. omega arith)
+    (λ c. search needs) (λ c. search needs) loop-again same-length returns)

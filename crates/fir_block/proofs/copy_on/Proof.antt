@@ -18,7 +18,8 @@ loop-holds : tie.Need-loop-holds Inv-loop μ-loop
 loop-holds c = put-start _ _ _
 
 loop-again : tie.Need-loop-again Inv-loop μ-loop
-loop-again c = on-turn _ _ _ _ _ (c .before .loop-test .taken) (c .before .before .before .pre .0) (c .before .before .before .pre .1) (c .before .before .loop .inv)
+loop-again c = on-turn _ _ _ _ _ (c .before .loop-test .taken) (c .before .before .before .pre .0) (c .before .before .before .pre .1)
+    (c .before .before .loop .inv)
 
 same-length : tie.Need-same-length Inv-loop μ-loop
 same-length c = c .before .loop .inv .same
@@ -29,18 +30,6 @@ returns c = on-done _ _ _ _ _ (c .loop-test .left) (c .before .before .pre .0) (
 pub copy-on-spec : {M : Type 1} → statement M
 copy-on-spec =
     tie.close
-    (tie.spec
-    Inv-loop
-    μ-loop
-    loop-holds
-    (λ c. search needs)
-    (λ c. search needs)
-    (λ c. omega arith)
-    (λ c. search needs)
-    (λ c. search needs)
-    (λ c. omega arith)
-    (λ c. search needs)
-    (λ c. search needs)
-    loop-again
-    same-length
-    returns)
+    (tie.spec Inv-loop μ-loop loop-holds (λ c. search needs) (λ c. search needs) (λ c. omega arith) (λ c. search needs) (λ c. search needs)
+    (λ c. omega arith) (λ c. search needs) (λ c. search needs) loop-again
+    same-length returns)

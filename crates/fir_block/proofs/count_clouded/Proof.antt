@@ -31,15 +31,6 @@ returns c = count-done _ _ _ (c .loop-test .left) (c .before .loop .inv)
 pub count-clouded-spec : {M : Type 1} → statement M
 count-clouded-spec =
     tie.close
-    (tie.spec
-    Inv-loop
-    μ-loop
-    loop-holds
-    (λ c. search needs)
-    (λ c. search needs)
-    age-after-requires
-    (λ c. search needs)
-    (λ c. search needs)
-    (λ c. search needs)
-    loop-again
+    (tie.spec Inv-loop μ-loop loop-holds (λ c. search needs) (λ c. search needs) age-after-requires
+    (λ c. search needs) (λ c. search needs) (λ c. search needs) loop-again
     returns)

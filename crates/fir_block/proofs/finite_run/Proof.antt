@@ -18,7 +18,8 @@ loop-holds : tie.Need-loop-holds Inv-loop μ-loop
 loop-holds c = finite-start _
 
 returns : tie.Need-returns Inv-loop μ-loop
-returns c = finite-found _ _ _ (omega arith) (c .before .before .before .loop-test .taken) (sym (c .before .is-finite .ensures) ∙ not-true _ (c .if1 .taken)) (c .before .before .before .before .loop .inv)
+returns c = finite-found _ _ _ (omega arith) (c .before .before .before .loop-test .taken) (sym (c .before .is-finite .ensures) ∙ not-true _ (c .if1 .taken))
+    (c .before .before .before .before .loop .inv)
 
 loop-again : tie.Need-loop-again Inv-loop μ-loop
 loop-again c = finite-turn _ _ (omega arith) (sym (c .before .is-finite .ensures) ∙ not-false _ (c .if1 .left)) (c .before .before .before .before .loop .inv)
@@ -29,15 +30,5 @@ returns-2 c = finite-done _ _ _ (c .loop-test .left) (c .before .loop .inv)
 pub finite-run-spec : {M : Type 1} → statement M
 finite-run-spec =
     tie.close
-    (tie.spec
-    Inv-loop
-    μ-loop
-    loop-holds
-    (λ c. search needs)
-    (λ c. omega arith)
-    (λ c κs. search needs)
-    returns
-    (λ c. search needs)
-    (λ c. search needs)
-    loop-again
-    returns-2)
+    (tie.spec Inv-loop μ-loop loop-holds (λ c. search needs) (λ c. omega arith) (λ c κs. search needs) returns
+    (λ c. search needs) (λ c. search needs) loop-again returns-2)

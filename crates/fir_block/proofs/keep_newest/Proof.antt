@@ -15,7 +15,8 @@ sub-copy-back-2 : tie.Need-sub-copy-back-2
 sub-copy-back-2 c = omega (arith, c .before .before .before .before .pre)
 
 copy-back-requires-2 : tie.Need-copy-back-requires-2
-copy-back-requires-2 c κs = let t = c .before in let p = t .before .before .before .before .pre in (omega (arith, p .3, t .if1 .left), omega (arith, p .0, p .3, t .if1 .left), p .1)
+copy-back-requires-2 c κs = let t = c .before in let p = t .before .before .before .before .pre in
+    (omega (arith, p .3, t .if1 .left), omega (arith, p .0, p .3, t .if1 .left), p .1)
 
 returns : tie.Need-returns
 returns c = let t = c .before .before .before .before in newest-line _ _ _ _ _ (t .if1 .taken) (c .before .before .copy-back .ensures)
@@ -26,13 +27,5 @@ returns-2 c = let t = c .before .before .before .before in newest-input _ _ _ _ 
 pub keep-newest-spec : {M : Type 1} → statement M
 keep-newest-spec =
     tie.close
-    (tie.spec
-    (λ c. search needs)
-    sub-copy-back
-    copy-back-requires
-    sub-copy-back-2
-    copy-back-requires-2
-    (λ c. search needs)
-    returns
-    (λ c. search needs)
-    returns-2)
+    (tie.spec (λ c. search needs) sub-copy-back copy-back-requires sub-copy-back-2
+    copy-back-requires-2 (λ c. search needs) returns (λ c. search needs) returns-2)

@@ -25,41 +25,38 @@ line-of-requires c κs = let j = c .before in
     (p .0, p .1, omega (arith, p .1, p .3), omega (arith, few-is j), omega (arith, few-is j, p .4))
 
 add-convolve : tie.Need-add-convolve
-add-convolve c = let j = c .before .before .before .before .before .before .before .before in omega (arith, few-is j, start j .pre .4)
+add-convolve c = let j : tie.Joined1 = search in
+    omega (arith, few-is j, start j .pre .4)
 
 add-convolve-2 : tie.Need-add-convolve-2
-add-convolve-2 c = let j = c .before .before .before .before .before .before .before .before .before in omega (arith, few-is j, start j .pre .4)
+add-convolve-2 c = let j : tie.Joined1 = search in
+    omega (arith, few-is j, start j .pre .4)
 
 sub-convolve : tie.Need-sub-convolve
-sub-convolve c = let j = c .before .before .before .before .before .before .before .before .before in omega (arith, few-is j)
+sub-convolve c = let j : tie.Joined1 = search in
+    omega (arith, few-is j)
 
 returns : tie.Need-returns
-returns c = λ window g. let j = c .before .before .before .before .before .before .before .before .before .before .before .before .before .before .before .before .before .before .before .before in
-    let s = start j in
+returns c = let after-count-clouded : tie.After-count-clouded = search in
+    let after-finite-run : tie.After-finite-run = search in
+    let after-convolve2 : tie.After-convolve2 = search in
+    let after-convolve : tie.After-convolve = search in
+    let after-line-of : tie.After-line-of = search in
+    let j : tie.Joined1 = search in
+    λ window g. let s = start j in
     let p = s .pre in
-    let w = c .before .before .before .before .before .before .before .before .before .before .before .before .before .before .before .before .before .before .line-of .ensures in
+    let w = after-line-of .line-of .ensures in
     let r = lentTaps (s .args .taps .now) (s .args .samples .now) (s .args .n) (s .args .n) window in (
-      count-long maxTaps binary64 r _ _ _ _ g refl (p .2) (p .3) (p .4) refl (few-is j) (c .before .before .before .before .before .before .finite-run .ensures) (c .before .before .before .before .before .count-clouded .ensures),
+      count-long maxTaps binary64 r _ _ _ _ g refl (p .2) (p .3) (p .4) refl (few-is j) (after-finite-run .finite-run .ensures)
+          (after-count-clouded .count-clouded .ensures),
       after-long maxTaps binary64 r _ _ _ _ g refl (p .2) (p .3) (p .4) refl (few-is j) _ (w .1) (c .before .before .keep-newest .ensures),
-      output-long maxTaps binary64 r _ _ _ _ g refl (p .2) (p .3) (p .4) refl (few-is j) _ (w .1) _ (p .5) (omega (arith, w .0, few-is j, p .1)) _ (c .before .before .before .before .before .before .before .before .before .before .before .before .before .before .before .convolve .ensures .1) (c .before .before .before .before .before .before .before .before .before .before .convolve2 .ensures .1),
+      output-long maxTaps binary64 r _ _ _ _ g refl (p .2) (p .3) (p .4) refl (few-is j) _ (w .1) _ (p .5) (omega (arith, w .0, few-is j, p .1)) _
+          (after-convolve .convolve .ensures .1) (after-convolve2 .convolve2 .ensures .1),
     )
 
 pub pass-all-spec : {M : Type 1} → statement M
 pass-all-spec =
     tie.close
-    (tie.spec
-    (λ c. search needs)
-    line-of-requires
-    (λ c. search needs)
-    (λ c κs. search needs)
-    add-convolve
-    add-convolve-2
-    sub-convolve
-    (λ c κs. search needs)
-    (λ c κs. search needs)
-    (λ c κs. search needs)
-    (λ c. search needs)
-    (λ c κs. search needs)
-    (λ c. search needs)
-    (λ c. search needs)
-    returns)
+    (tie.spec (λ c. search needs) line-of-requires (λ c. search needs) (λ c κs. search needs) add-convolve
+    add-convolve-2 sub-convolve (λ c κs. search needs) (λ c κs. search needs) (λ c κs. search needs) (λ c. search needs)
+    (λ c κs. search needs) (λ c. search needs) (λ c. search needs) returns)

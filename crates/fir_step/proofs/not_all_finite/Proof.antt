@@ -21,12 +21,16 @@ loop-holds c = (search needs, refl)
 returns : tie.Need-returns Inv-loop μ-loop
 returns c = let l = c .before .before .before .before in
     let a = l .before .before .args in
-    look-found (a .samples .now) (a .n) (l .loop .i) (omega arith) (omega arith) (sym (c .before .is-finite .ensures) ∙ not-true _ (c .if1 .taken)) (l .loop .inv .1)
+    look-found (a .samples .now) (a .n) (l .loop .i) (omega arith) (omega arith) (sym (c .before .is-finite .ensures) ∙ not-true _ (c .if1 .taken))
+    (l .loop .inv .1)
 
 loop-again : tie.Need-loop-again Inv-loop μ-loop
 loop-again c = let l = c .before .before .before .before in
-    let a = l .before .before .args in
-    (omega arith, look-turn (a .samples .now) (a .n) (l .loop .i) (omega arith) (omega arith) (sym (c .before .is-finite .ensures) ∙ not-false _ (c .if1 .left)) (l .loop .inv .1))
+    let a = l .before .before .args in (
+      omega arith,
+      look-turn (a .samples .now) (a .n) (l .loop .i) (omega arith) (omega arith) (sym (c .before .is-finite .ensures) ∙ not-false _ (c .if1 .left))
+          (l .loop .inv .1),
+    )
 
 returns-2 : tie.Need-returns-2 Inv-loop μ-loop
 returns-2 c = look-done _ (c .before .before .before .args .n) (c .before .loop .i) (omega arith) (c .before .loop .inv .1)
@@ -34,15 +38,5 @@ returns-2 c = look-done _ (c .before .before .before .args .n) (c .before .loop 
 pub not-all-finite-spec : {M : Type 1} → statement M
 not-all-finite-spec =
     tie.close
-    (tie.spec
-    Inv-loop
-    μ-loop
-    loop-holds
-    (λ c. omega arith)
-    (λ c. omega arith)
-    (λ c κs. tt)
-    returns
-    (λ c. omega arith)
-    (λ c. omega arith)
-    loop-again
-    returns-2)
+    (tie.spec Inv-loop μ-loop loop-holds (λ c. omega arith) (λ c. omega arith) (λ c κs. tt) returns
+    (λ c. omega arith) (λ c. omega arith) loop-again returns-2)

@@ -21,15 +21,16 @@ take-in-requires c κs = let j = c .before in
     (p .0, p .1, omega (arith, held-is j))
 
 clouds-requires : tie.Need-clouds-requires
-clouds-requires c κs = let t = c .before .before .before .take-in .ensures in
-    let j = c .before .before .before .before .before in
+clouds-requires c κs = let j : tie.Joined1 = search in
+    let t = c .before .before .before .take-in .ensures in
     let p = start j .pre in
     let l = ap length (t .0) ∙ length-pushed _ _ _ (p .1) in
     (omega (arith, held-is j, p .0), omega (arith, held-is j, p .1, l), rw (t .0) (t .1))
 
 returns : tie.Need-returns
-returns c = let t = c .before .before .before .before .take-in .ensures in
-    (t .0, held-is (c .before .before .before .before .before .before), rw (t .0) (t .1), c .clouds .ensures)
+returns c = let joined1 : tie.Joined1 = search in
+    let t = c .before .before .before .before .take-in .ensures in
+    (t .0, held-is joined1, rw (t .0) (t .1), c .clouds .ensures)
 
 pub pass-spec : {M : Type 1} → statement M
 pass-spec = tie.close (tie.spec (λ c. search needs) take-in-requires clouds-requires (λ c. search needs) returns)

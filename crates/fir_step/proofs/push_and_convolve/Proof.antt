@@ -11,7 +11,8 @@ use Rattle.fir_step.proofs.push_and_convolve.Statement.{statement}
 use Rattle.fir_step.proofs.push_and_convolve.Tie as tie
 
 abbrev Inv-loop : tie.InvT-loop
-Inv-loop taps samples₀ n x acc₀ carried₀ i₀ samples acc carried i = (i ≤ n) × Pushing samples₀ x samples carried i × Summing binary64 taps (take n (x ∷ samples₀)) acc i
+Inv-loop taps samples₀ n x acc₀ carried₀ i₀ samples acc carried i = (i ≤ n) × Pushing samples₀ x samples carried i
+    × Summing binary64 taps (take n (x ∷ samples₀)) acc i
 
 abbrev μ-loop : tie.MeasureT-loop
 μ-loop taps samples₀ n x acc₀ carried₀ i₀ samples acc carried i = n - i
@@ -23,30 +24,25 @@ loop-holds c = (search needs, push-start _ _, refl)
 loop-again : tie.Need-loop-again Inv-loop μ-loop
 loop-again c = let l = c .before .before .before in
     let a = l .before .args in
-    let p = l .loop .inv .1 in
-    (omega arith, push-turn _ _ _ _ _ (omega arith) p, rw (p .1) (sum-turn _ (a .taps .now) (a .x ∷ a .samples .now) _ (a .n) (l .loop .i) (omega arith) (omega arith) (omega arith) (l .loop .inv .2)))
+    let p = l .loop .inv .1 in (
+      omega arith,
+      push-turn _ _ _ _ _ (omega arith) p,
+      rw (p .1) (sum-turn _ (a .taps .now) (a .x ∷ a .samples .now) _ (a .n) (l .loop .i) (omega arith)
+          (omega arith) (omega arith) (l .loop .inv .2)),
+    )
 
 returns : tie.Need-returns Inv-loop μ-loop
 returns c = let l = c .before in
     let a = l .before .args in
-    let e : l .loop .i ≡ a .n = omega arith in
-    (rw (← e) (l .loop .inv .1 .0), rw (take-pushed (a .n) (a .n) (a .x) (a .samples .now) (omega arith) (omega arith)) (sum-done _ _ _ _ (a .n) (l .loop .i) (omega arith) (l .loop .inv .2)))
+    let e : l .loop .i ≡ a .n = omega arith in (
+      rw (← e) (l .loop .inv .1 .0),
+      rw (take-pushed (a .n) (a .n) (a .x) (a .samples .now) (omega arith) (omega arith))
+          (sum-done _ _ _ _ (a .n) (l .loop .i) (omega arith) (l .loop .inv .2)),
+    )
 
 pub push-and-convolve-spec : {M : Type 1} → statement M
 push-and-convolve-spec =
     tie.close
-    (tie.spec
-    Inv-loop
-    μ-loop
-    loop-holds
-    (λ c. omega arith)
-    (λ c. omega arith)
-    (λ c. omega arith)
-    (λ c. omega arith)
-    (λ c. omega arith)
-    (λ c. omega arith)
-    (λ c. omega arith)
-    (λ c. omega arith)
-    loop-again
-    (λ c. omega arith)
-    returns)
+    (tie.spec Inv-loop μ-loop loop-holds (λ c. omega arith) (λ c. omega arith) (λ c. omega arith) (λ c. omega arith) (λ c. omega arith)
+    (λ c. omega arith) (λ c. omega arith) (λ c. omega arith) loop-again
+    (λ c. omega arith) returns)

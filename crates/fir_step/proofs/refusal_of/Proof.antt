@@ -17,12 +17,14 @@ returns c = refusal-unfit (fir maxTaps binary64) (fits maxTaps) _ (sym (c .befor
 returns-2 : tie.Need-returns-2
 unfolding fits checkTaps
 returns-2 c = let e = c .before .before in
-    refusal-unchecked (fir maxTaps binary64) (fits maxTaps) _ (sym (e .before .fit .ensures) ∙ not-false _ (e .if1 .left)) (sym (c .before .check .ensures) ∙ not-true _ (c .if2 .taken))
+    refusal-unchecked (fir maxTaps binary64) (fits maxTaps) _ (sym (e .before .fit .ensures) ∙ not-false _ (e .if1 .left))
+    (sym (c .before .check .ensures) ∙ not-true _ (c .if2 .taken))
 
 returns-3 : tie.Need-returns-3
 unfolding fits checkTaps
 returns-3 c = let e = c .before .before in
-    refusal-none (fir maxTaps binary64) (fits maxTaps) _ (sym (e .before .fit .ensures) ∙ not-false _ (e .if1 .left)) (sym (c .before .check .ensures) ∙ not-false _ (c .if2 .left))
+    refusal-none (fir maxTaps binary64) (fits maxTaps) _ (sym (e .before .fit .ensures) ∙ not-false _ (e .if1 .left))
+    (sym (c .before .check .ensures) ∙ not-false _ (c .if2 .left))
 
 pub refusal-of-spec : {M : Type 1} → statement M
 refusal-of-spec = tie.close (tie.spec (λ c κs. search needs) returns (λ c κs. search needs) returns-2 returns-3)

@@ -20,6 +20,4 @@ returns-2 c = let e = c .before .before .before .before in
     reset-is binary64 maxTaps _ (g .0) (g .1) (c .before .before .clear .ensures)
 
 pub reset-spec : {M : Type 1} → statement M
-reset-spec =
-    tie.close
-    (tie.spec (λ c κs. search needs) (λ c. search needs) returns (λ c κs. search needs) (λ c. search needs) returns-2)
+reset-spec = tie.close (tie.spec (λ c κs. search needs) (λ c. search needs) returns (λ c κs. search needs) (λ c. search needs) returns-2)

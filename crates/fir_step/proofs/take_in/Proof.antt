@@ -10,19 +10,13 @@ returns c = let e = c .before .before .before .before .push .ensures in
     (e, rw (← e) (c .convolve .ensures))
 
 returns-2 : tie.Need-returns-2
-returns-2 c = let p = c .before .before .push-and-convolve .ensures in
-    let s = c .before .before .before .before .before .before .before in
+returns-2 c = let s : tie.Start = search in
+    let p = c .before .before .push-and-convolve .ensures in
     let e : s .args .held ≡ s .args .n = omega (arith, s .pre) in
     (p .0, rw e (p .1))
 
 pub take-in-spec : {M : Type 1} → statement M
 take-in-spec =
     tie.close
-    (tie.spec
-    (λ c κs. search needs)
-    (λ c κs. search needs)
-    (λ c. search needs)
-    returns
-    (λ c κs. search needs)
-    (λ c. search needs)
-    returns-2)
+    (tie.spec (λ c κs. search needs) (λ c κs. search needs) (λ c. search needs) returns
+    (λ c κs. search needs) (λ c. search needs) returns-2)

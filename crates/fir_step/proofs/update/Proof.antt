@@ -26,22 +26,17 @@ pass-requires : tie.Need-pass-requires
 pass-requires c κs = let g = good (c .before) in rooms maxTaps _ (g .0) (g .1)
 
 returns-2 : tie.Need-returns-2
-returns-2 c = let g = good (c .before .before .before .before .before) in
+returns-2 c = let else1 : tie.Else1 = search in
+    let g = good else1 in
     update-is binary64 maxTaps _ (g .0) (g .1) _ true (c .before .before .before .pass .ensures) (c .if2 .taken)
 
 returns-3 : tie.Need-returns-3
-returns-3 c = let g = good (c .before .before .before .before .before) in
+returns-3 c = let else1 : tie.Else1 = search in
+    let g = good else1 in
     update-is binary64 maxTaps _ (g .0) (g .1) _ false (c .before .before .before .pass .ensures) (c .if2 .left)
 
 pub update-spec : {M : Type 1} → statement M
 update-spec =
     tie.close
-    (tie.spec
-    (λ c κs. search needs)
-    (λ c. search needs)
-    returns
-    pass-requires
-    (λ c. search needs)
-    returns-2
-    (λ c. search needs)
-    returns-3)
+    (tie.spec (λ c κs. search needs) (λ c. search needs) returns pass-requires
+    (λ c. search needs) returns-2 (λ c. search needs) returns-3)

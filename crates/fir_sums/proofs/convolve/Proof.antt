@@ -29,18 +29,12 @@ outputs-requires c κs = let e = c .before .before .before in
 returns-5 : tie.Need-returns-5
 returns-5 c = let a = c .before .before .before in
     let e = a .before .before .before in
-    all-there binary64 _ _ _ _ _ _ _ (e .before .before .before .if1 .left) (e .before .before .if2 .left) (sym (not-false _ (e .if3 .left)) ∙ e .before .within .ensures) (sym (not-false _ (a .before .if4 .left)) ∙ a .before .before .within2 .ensures) (c .before .before .outputs .ensures)
+    all-there binary64 _ _ _ _ _ _ _ (e .before .before .before .if1 .left) (e .before .before .if2 .left)
+    (sym (not-false _ (e .if3 .left)) ∙ e .before .within .ensures) (sym (not-false _ (a .before .if4 .left)) ∙ a .before .before .within2 .ensures)
+    (c .before .before .outputs .ensures)
 
 pub convolve-spec : {M : Type 1} → statement M
 convolve-spec =
     tie.close
-    (tie.spec
-    returns
-    returns-2
-    (λ c κs. search needs)
-    returns-3
-    (λ c κs. search needs)
-    returns-4
-    outputs-requires
-    (λ c. search needs)
-    returns-5)
+    (tie.spec returns returns-2 (λ c κs. search needs) returns-3 (λ c κs. search needs) returns-4
+    outputs-requires (λ c. search needs) returns-5)

@@ -17,13 +17,16 @@ loop-holds : tie.Need-loop-holds Inv-loop μ-loop
 loop-holds c = out-start binary64 _ _ _ _ _ _ _
 
 one-requires : tie.Need-one-requires Inv-loop μ-loop
-one-requires c κs = let p = c .before .before .before .before .before .pre in (omega (arith, p .0), p .1, omega (arith, p .2))
+one-requires c κs = let start : tie.Start Inv-loop μ-loop = search in
+    let p = start .pre in (omega (arith, p .0), p .1, omega (arith, p .2))
 
 slice-write-output : tie.Need-slice-write-output Inv-loop μ-loop
-slice-write-output c = omega (arith, c .before .before .loop .inv .same, c .before .before .before .before .before .before .pre)
+slice-write-output c = let start : tie.Start Inv-loop μ-loop = search in
+    omega (arith, c .before .before .loop .inv .same, start .pre)
 
 loop-again : tie.Need-loop-again Inv-loop μ-loop
-loop-again c = let a = c .before .before in out-one binary64 _ _ _ _ _ _ _ (c .before .loop-test .taken) (a .before .before .before .before .pre .3) (c .one .ensures) (a .loop .inv)
+loop-again c = let a = c .before .before in
+    out-one binary64 _ _ _ _ _ _ _ (c .before .loop-test .taken) (a .before .before .before .before .pre .3) (c .one .ensures) (a .loop .inv)
 
 same-length : tie.Need-same-length Inv-loop μ-loop
 same-length c = c .before .loop .inv .same
@@ -34,17 +37,6 @@ returns c = out-done binary64 _ _ _ _ _ _ _ (c .loop-test .left) (c .before .loo
 pub narrow-spec : {M : Type 1} → statement M
 narrow-spec =
     tie.close
-    (tie.spec
-    Inv-loop
-    μ-loop
-    loop-holds
-    (λ c. search needs)
-    one-requires
-    (λ c. search needs)
-    (λ c. search needs)
-    slice-write-output
-    (λ c. search needs)
-    (λ c. search needs)
-    loop-again
-    same-length
-    returns)
+    (tie.spec Inv-loop μ-loop loop-holds (λ c. search needs) one-requires
+    (λ c. search needs) (λ c. search needs) slice-write-output (λ c. search needs) (λ c. search needs) loop-again
+    same-length returns)

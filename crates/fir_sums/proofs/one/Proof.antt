@@ -28,16 +28,5 @@ returns c = one-done binary64 _ _ _ _ _ (c .before .loop .inv .0) (c .loop-test 
 pub one-spec : {M : Type 1} → statement M
 one-spec =
     tie.close
-    (tie.spec
-    Inv-loop
-    μ-loop
-    loop-holds
-    (λ c. search needs)
-    (λ c. omega arith)
-    (λ c. omega arith)
-    (λ c. search needs)
-    (λ c. omega arith)
-    (λ c. search needs)
-    (λ c. search needs)
-    loop-again
-    returns)
+    (tie.spec Inv-loop μ-loop loop-holds (λ c. search needs) (λ c. omega arith) (λ c. omega arith) (λ c. search needs) (λ c. omega arith)
+    (λ c. search needs) (λ c. search needs) loop-again returns)

@@ -26,7 +26,7 @@ add-scaled-requires : tie.Need-add-scaled-requires Inv-loop μ-loop
 add-scaled-requires c κs = let a = c .before .before .before in omega (arith, sums-length binary64 _ _ _ _ 16 (a .loop .inv .1), a .before .before .before .pre)
 
 loop-again : tie.Need-loop-again Inv-loop μ-loop
-loop-again c = let a = c .before .before .before .before .before in
+loop-again c = let a : tie.At-loop Inv-loop μ-loop = search in
     (omega arith, taps-turn binary64 _ _ (a .loop .i) _ 16 (omega (arith, a .before .before .before .pre)) (a .loop .inv .1) (c .before .add-scaled .ensures))
 
 returns : tie.Need-returns Inv-loop μ-loop
@@ -35,16 +35,6 @@ returns c = taps-done binary64 _ _ _ _ _ 16 (c .before .loop .inv .0) (c .loop-t
 pub sixteen-spec : {M : Type 1} → statement M
 sixteen-spec =
     tie.close
-    (tie.spec
-    Inv-loop
-    μ-loop
-    loop-holds
-    (λ c. search needs)
-    (λ c. search needs)
-    (λ c. search needs)
-    slice-aggregate-add-scaled
-    add-scaled-requires
-    (λ c. search needs)
-    (λ c. search needs)
-    loop-again
+    (tie.spec Inv-loop μ-loop loop-holds (λ c. search needs) (λ c. search needs) (λ c. search needs) slice-aggregate-add-scaled
+    add-scaled-requires (λ c. search needs) (λ c. search needs) loop-again
     returns)

@@ -18,16 +18,21 @@ loop-holds : tie.Need-loop-holds Inv-loop μ-loop
 loop-holds c = out-start binary64 _ _ _ _ _ _ _
 
 sixteen-requires : tie.Need-sixteen-requires Inv-loop μ-loop
-sixteen-requires c κs = let p = c .before .before .before .before .before .pre in (omega (arith, p .0), p .1, omega (arith, p .2))
+sixteen-requires c κs = let start : tie.Start Inv-loop μ-loop = search in
+    let p = start .pre in (omega (arith, p .0), p .1, omega (arith, p .2))
 
 slice-aggregate-put : tie.Need-slice-aggregate-put Inv-loop μ-loop
 slice-aggregate-put c = sym (sums-length binary64 _ _ _ _ 16 (c .before .before .sixteen .ensures))
 
 put-requires : tie.Need-put-requires Inv-loop μ-loop
-put-requires c κs = let a = c .before .before .before .before in omega (arith, sums-length binary64 _ _ _ _ 16 (c .before .before .sixteen .ensures), a .loop .inv .same, a .before .before .before .before .pre)
+put-requires c κs = let a = c .before .before .before .before in
+    omega (arith, sums-length binary64 _ _ _ _ 16 (c .before .before .sixteen .ensures), a .loop .inv .same, a .before .before .before .before .pre)
 
 loop-again : tie.Need-loop-again Inv-loop μ-loop
-loop-again c = let a = c .before .before .before .before .before .before .before in out-turn binary64 _ _ _ _ _ _ _ 16 (omega arith) (a .before .before .before .before .pre .3) (c .before .before .before .before .before .sixteen .ensures) (c .before .before .put .ensures) (a .loop .inv)
+loop-again c = let after-sixteen : tie.After-sixteen Inv-loop μ-loop = search in
+    let a : tie.At-loop Inv-loop μ-loop = search in
+    out-turn binary64 _ _ _ _ _ _ _ 16 (omega arith) (a .before .before .before .before .pre .3) (after-sixteen .sixteen .ensures)
+    (c .before .before .put .ensures) (a .loop .inv)
 
 same-length : tie.Need-same-length Inv-loop μ-loop
 same-length c = c .before .loop .inv .same
@@ -38,18 +43,6 @@ returns c = (c .before .loop .inv .within, c .before .loop .inv .places)
 pub wide-spec : {M : Type 1} → statement M
 wide-spec =
     tie.close
-    (tie.spec
-    Inv-loop
-    μ-loop
-    loop-holds
-    (λ c. omega arith)
-    (λ c. search needs)
-    sixteen-requires
-    (λ c. search needs)
-    slice-aggregate-put
-    put-requires
-    (λ c. search needs)
-    (λ c. search needs)
-    loop-again
-    same-length
-    returns)
+    (tie.spec Inv-loop μ-loop loop-holds (λ c. omega arith) (λ c. search needs) sixteen-requires
+    (λ c. search needs) slice-aggregate-put put-requires (λ c. search needs) (λ c. search needs) loop-again
+    same-length returns)

@@ -1,4 +1,5 @@
--- `ieee::nearest_root` meets its contract. The loop's invariant: the weight w is a power of two, y * w is what is left of m * 2 ^ 52 with q * q taken off, and q + w is
+-- `ieee::nearest_root` meets its contract. The loop's invariant: the weight w is a power of two, y * w is what is left of m * 2 ^ 52 with q * q taken off, and
+-- q + w is
 -- above the root. The measure is w.
 use mathlib.Core.Path.{_≡_, refl}
 use Prim.Native.Nat.{ℕ, _+_, _-_, _*_, _/_, _^_, _≤_, _<_}
@@ -48,19 +49,6 @@ returns-2 c =
 pub nearest-root-spec : {M : Type 1} → statement M
 nearest-root-spec =
     tie.close
-    (tie.spec
-    Inv-loop
-    μ-loop
-    (λ c. omega arith)
-    loop-holds
-    (λ c. omega arith)
-    (λ c. omega arith)
-    (λ c. omega arith)
-    (λ c. omega arith)
-    (λ c. omega arith)
-    loop-again
-    (λ c. omega arith)
-    loop-again-2
-    (λ c. omega arith)
-    returns
+    (tie.spec Inv-loop μ-loop (λ c. omega arith) loop-holds (λ c. omega arith) (λ c. omega arith) (λ c. omega arith) (λ c. omega arith)
+    (λ c. omega arith) loop-again (λ c. omega arith) loop-again-2 (λ c. omega arith) returns
     returns-2)

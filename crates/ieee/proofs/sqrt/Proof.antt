@@ -32,10 +32,15 @@ float-to-bits-b c = above-no-nan (c .before .before .args .x) (subst T (sym (c .
 
 root-bits-requires : tie.Need-root-bits-requires
 unfolding ofBits
-root-bits-requires c κs = (bits-pos (c .before .before .before .args .x) (toBits binary64 (c .before .before .before .args .x)) (own (c .before .before .before)) (subst T (sym (c .before .if2 .taken)) tt), omega arith)
+root-bits-requires c κs = (
+  bits-pos (c .before .before .before .args .x) (toBits binary64 (c .before .before .before .args .x))
+      (own (c .before .before .before)) (subst T (sym (c .before .if2 .taken)) tt),
+  omega arith,
+)
 
 float-from-bits-result : tie.Need-float-from-bits-result
-float-from-bits-result c = no-nan-made (toBits binary64 (c .before .before .before .before .args .x)) (c .root-bits .result) (c .root-bits .ensures .0) (c .root-bits .ensures .1)
+float-from-bits-result c = no-nan-made (toBits binary64 (c .before .before .before .before .args .x)) (c .root-bits .result) (c .root-bits .ensures .0)
+    (c .root-bits .ensures .1)
 
 returns-2 : tie.Need-returns-2
 unfolding ofBits
@@ -48,21 +53,16 @@ returns-2 c =
 
 returns-3 : tie.Need-returns-3
 unfolding ofBits
-returns-3 c = both (c .before .before .before .args .x) _ (infinite (c .before .before .before .args .x) (toBits binary64 (c .before .before .before .args .x)) (own (c .before .before .before)) (subst T (sym (c .before .if2 .taken)) tt) (omega arith))
+returns-3 c = both (c .before .before .before .args .x) _ (infinite (c .before .before .before .args .x) (toBits binary64 (c .before .before .before .args .x))
+    (own (c .before .before .before)) (subst T (sym (c .before .if2 .taken)) tt) (omega arith))
 
 returns-4 : tie.Need-returns-4
 unfolding ofBits
-returns-4 c = both (c .before .before .args .x) _ (neither (c .before .before .args .x) (subst (λ (t : Bool). T (not t)) (sym (c .before .if1 .left)) tt) (subst (λ (t : Bool). T (not t)) (sym (c .if2 .left)) tt))
+returns-4 c = both (c .before .before .args .x) _ (neither (c .before .before .args .x) (subst (λ (t : Bool). T (not t)) (sym (c .before .if1 .left)) tt)
+    (subst (λ (t : Bool). T (not t)) (sym (c .if2 .left)) tt))
 
 pub sqrt-spec : {M : Type 1} → statement M
 sqrt-spec =
     tie.close
-    (tie.spec
-    float-from-bits-infinity
-    returns
-    float-to-bits-b
-    root-bits-requires
-    float-from-bits-result
-    returns-2
-    returns-3
-    returns-4)
+    (tie.spec float-from-bits-infinity returns float-to-bits-b root-bits-requires
+    float-from-bits-result returns-2 returns-3 returns-4)

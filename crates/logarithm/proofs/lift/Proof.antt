@@ -29,5 +29,4 @@ returns c = let l = c .before .loop in
     (l .inv .0, (c .loop-test .left, (l .inv .1, few-turns (l .q) (c .before .before .args .t) (l .j) (c .before .before .pre .0) (l .inv .0) (l .inv .1))))
 
 pub lift-spec : {M : Type 1} → statement M
-lift-spec =
-    tie.close (tie.spec Inv-loop μ-loop loop-holds mul-q add-j (λ c. omega arith) loop-again returns)
+lift-spec = tie.close (tie.spec Inv-loop μ-loop loop-holds mul-q add-j (λ c. omega arith) loop-again returns)

@@ -35,17 +35,15 @@ returns-5 : tie.Need-returns-5
 unfolding lnOf
 returns-5 c = let d = c .before .before .before in
     let x = d .before .before .before .before .args .x in
-    rw (c .ln-main .ensures, c .before .centre .ensures, c .before .before .split .ensures .0, nan-test x ∙ d .before .before .before .if1 .left, d .before .before .if2 .left, d .before .if3 .left, ap (Ieee.eq x) (sym inf-is) ∙ d .if4 .left)
+    rw (
+      c .ln-main .ensures,
+      c .before .centre .ensures,
+      c .before .before .split .ensures .0,
+      nan-test x ∙ d .before .before .before .if1 .left,
+      d .before .before .if2 .left,
+      d .before .if3 .left,
+      ap (Ieee.eq x) (sym inf-is) ∙ d .if4 .left,
+    )
 
 pub ln-spec : {M : Type 1} → statement M
-ln-spec =
-    tie.close
-    (tie.spec
-    returns
-    returns-2
-    returns-3
-    returns-4
-    split-requires
-    (λ c κs. search needs)
-    (λ c κs. search needs)
-    returns-5)
+ln-spec = tie.close (tie.spec returns returns-2 returns-3 returns-4 split-requires (λ c κs. search needs) (λ c κs. search needs) returns-5)

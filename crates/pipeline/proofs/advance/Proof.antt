@@ -9,10 +9,11 @@ use Rattle.pipeline.proofs.advance.Tie as tie
 returns : tie.Need-returns
 unfolding lineOut
 returns c = let d = c .before .before .before .before in
-    let e = d .process4 .ensures in
-    (e .0, advanced-is binary64 (went binary64 (d .before .before .before .process .ensures)) (went binary64 (d .before .before .process2 .ensures)) (went binary64 (d .before .process3 .ensures)) (went binary64 e))
+    let e = d .process4 .ensures in (
+      e .0,
+      advanced-is binary64 (went binary64 (d .before .before .before .process .ensures)) (went binary64 (d .before .before .process2 .ensures))
+          (went binary64 (d .before .process3 .ensures)) (went binary64 e),
+    )
 
 pub advance-spec : {M : Type 1} → statement M
-advance-spec =
-    tie.close
-    (tie.spec (λ c κs. search needs) (λ c κs. search needs) (λ c κs. search needs) (λ c κs. search needs) returns)
+advance-spec = tie.close (tie.spec (λ c κs. search needs) (λ c κs. search needs) (λ c κs. search needs) (λ c κs. search needs) returns)

@@ -7,17 +7,12 @@ use Rattle.pipeline.proofs.drain.Tie as tie
 
 returns : tie.Need-returns
 returns c = let g = c .before .before .before .before in
-    drained-is binary64 (went binary64 (g .before .before .before .before .before .process .ensures)) (went binary64 (g .before .before .before .before .process2 .ensures)) (went binary64 (g .before .before .before .process3 .ensures))
+    drained-is binary64 (went binary64 (g .before .before .before .before .before .process .ensures))
+    (went binary64 (g .before .before .before .before .process2 .ensures)) (went binary64 (g .before .before .before .process3 .ensures))
     (went binary64 (g .before .before .process4 .ensures)) (went binary64 (g .before .process5 .ensures)) (went binary64 (g .process6 .ensures))
 
 pub drain-spec : {M : Type 1} → statement M
 drain-spec =
     tie.close
-    (tie.spec
-    (λ c κs. search needs)
-    (λ c κs. search needs)
-    (λ c κs. search needs)
-    (λ c κs. search needs)
-    (λ c κs. search needs)
-    (λ c κs. search needs)
-    returns)
+    (tie.spec (λ c κs. search needs) (λ c κs. search needs) (λ c κs. search needs) (λ c κs. search needs) (λ c κs. search needs)
+    (λ c κs. search needs) returns)

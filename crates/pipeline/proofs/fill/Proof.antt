@@ -7,17 +7,12 @@ use Rattle.pipeline.proofs.fill.Tie as tie
 
 returns : tie.Need-returns
 returns c = let g = c .before .before .before .before in
-    filled-is binary64 (went binary64 (g .before .before .before .before .before .process .ensures)) (went binary64 (g .before .before .before .before .process2 .ensures)) (went binary64 (g .before .before .before .process3 .ensures))
+    filled-is binary64 (went binary64 (g .before .before .before .before .before .process .ensures))
+    (went binary64 (g .before .before .before .before .process2 .ensures)) (went binary64 (g .before .before .before .process3 .ensures))
     (went binary64 (g .before .before .process4 .ensures)) (went binary64 (g .before .process5 .ensures)) (went binary64 (g .process6 .ensures))
 
 pub fill-spec : {M : Type 1} → statement M
 fill-spec =
     tie.close
-    (tie.spec
-    (λ c κs. search needs)
-    (λ c κs. search needs)
-    (λ c κs. search needs)
-    (λ c κs. search needs)
-    (λ c κs. search needs)
-    (λ c κs. search needs)
-    returns)
+    (tie.spec (λ c κs. search needs) (λ c κs. search needs) (λ c κs. search needs) (λ c κs. search needs) (λ c κs. search needs)
+    (λ c κs. search needs) returns)

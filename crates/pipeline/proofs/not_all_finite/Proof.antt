@@ -19,7 +19,12 @@ loop-holds : tie.Need-loop-holds Inv-loop μ-loop
 loop-holds c = count-start _
 
 add-count : tie.Need-add-count Inv-loop μ-loop
-add-count c = omega (arith, c .not-finite .ensures, at-most-one (finite (getD (c .before .before .before .before .before .args .samples .now) (c .before .before .before .loop .i) nan)))
+add-count c = omega (
+  arith,
+  c .not-finite .ensures,
+  at-most-one (finite
+      (getD (c .before .before .before .before .before .args .samples .now) (c .before .before .before .loop .i) nan)),
+)
 
 loop-again : tie.Need-loop-again Inv-loop μ-loop
 loop-again c = count-turn _ (omega arith) (c .not-finite .ensures) (c .before .before .before .loop .inv)
@@ -30,15 +35,5 @@ returns c = count-done _ (c .loop-test .left) (c .before .loop .inv)
 pub not-all-finite-spec : {M : Type 1} → statement M
 not-all-finite-spec =
     tie.close
-    (tie.spec
-    Inv-loop
-    μ-loop
-    loop-holds
-    (λ c. search needs)
-    (λ c. search needs)
-    (λ c κs. search needs)
-    add-count
-    (λ c. search needs)
-    (λ c. search needs)
-    loop-again
-    returns)
+    (tie.spec Inv-loop μ-loop loop-holds (λ c. search needs) (λ c. search needs) (λ c κs. search needs) add-count
+    (λ c. search needs) (λ c. search needs) loop-again returns)

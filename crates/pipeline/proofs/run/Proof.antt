@@ -13,8 +13,10 @@ use Rattle.pipeline.proofs.run.Statement.{statement}
 use Rattle.pipeline.proofs.run.Tie as tie
 
 abbrev Inv-loop : tie.InvT-loop
-Inv-loop input output₀ n end line₀ i₀ output line i = (i ≤ end) × (length output ≡ length output₀) × (length input ≤ length output₀) × (length input * 8 < 2 ^ 63)
-    × ((c : FourRecord) → lineView line₀ ≡ filled binary64 c (getD input 0 nan) (getD input 1 nan) (getD input 2 nan) → Behind binary64 c input output₀ (lineView line) output i)
+Inv-loop input output₀ n end line₀ i₀ output line i = (i ≤ end) × (length output ≡ length output₀) × (length input ≤ length output₀)
+    × (length input * 8 < 2 ^ 63)
+    × ((c : FourRecord) → lineView line₀ ≡ filled binary64 c (getD input 0 nan) (getD input 1 nan) (getD input 2 nan)
+    → Behind binary64 c input output₀ (lineView line) output i)
 
 abbrev μ-loop : tie.MeasureT-loop
 μ-loop input output₀ n end line₀ i₀ output line i = end - i
@@ -33,8 +35,13 @@ loop-holds c = let e = c .before .before .before .before in
 
 loop-again : tie.Need-loop-again Inv-loop μ-loop
 loop-again c = let l = c .before .before .before .before in
-    let a = c .before .advance .ensures in
-    (omega arith, rw length-set (l .loop .inv .1), l .loop .inv .2, l .loop .inv .3, λ k e. line-turn binary64 k _ _ (omega arith) (a .0) (a .1) (l .loop .inv .4 k e))
+    let a = c .before .advance .ensures in (
+      omega arith,
+      rw length-set (l .loop .inv .1),
+      l .loop .inv .2,
+      l .loop .inv .3,
+      λ k e. line-turn binary64 k _ _ (omega arith) (a .0) (a .1) (l .loop .inv .4 k e),
+    )
 
 slice-write-output-3 : tie.Need-slice-write-output-3 Inv-loop μ-loop
 slice-write-output-3 c = let l = c .before .before in
@@ -56,33 +63,8 @@ returns-3 c = let l = c .before .before .before in
 pub run-spec : {M : Type 1} → statement M
 run-spec =
     tie.close
-    (tie.spec
-    Inv-loop
-    μ-loop
-    returns
-    returns-2
-    (λ c. search needs)
-    (λ c. search needs)
-    (λ c. search needs)
-    (λ c κs. search needs)
-    loop-holds
-    (λ c. omega arith)
-    (λ c. omega arith)
-    (λ c. search needs)
-    (λ c κs. search needs)
-    (λ c. omega arith)
-    (λ c. omega arith)
-    (λ c. omega arith)
-    (λ c. search needs)
-    loop-again
-    (λ c κs. search needs)
-    (λ c. omega arith)
-    (λ c. omega arith)
-    (λ c. omega arith)
-    (λ c. omega arith)
-    slice-write-output-3
-    (λ c. omega arith)
-    (λ c. omega arith)
-    slice-write-output-4
-    same-length
-    returns-3)
+    (tie.spec Inv-loop μ-loop returns returns-2 (λ c. search needs) (λ c. search needs) (λ c. search needs) (λ c κs. search needs)
+    loop-holds (λ c. omega arith) (λ c. omega arith) (λ c. search needs) (λ c κs. search needs) (λ c. omega arith) (λ c. omega arith)
+    (λ c. omega arith) (λ c. search needs) loop-again (λ c κs. search needs) (λ c. omega arith) (λ c. omega arith) (λ c. omega arith)
+    (λ c. omega arith) slice-write-output-3 (λ c. omega arith) (λ c. omega arith) slice-write-output-4
+    same-length returns-3)

@@ -18,8 +18,11 @@ loop-holds : tie.Need-loop-holds Inv-loop μ-loop
 loop-holds c = (c .inverse-factorial .ensures ∙ from-zero invFact (c .before .args .r) 13, omega arith)
 
 loop-again : tie.Need-loop-again Inv-loop μ-loop
-loop-again c = let l = c .before .before .loop in
-    (rw (c .inverse-factorial2 .ensures) (from-turn invFact (c .before .before .before .before .args .r) (l .p) (13 - l .j) (l .j) (l .j - 1) (13 - (l .j - 1)) (l .inv .0) (omega arith) (omega arith)), omega arith)
+loop-again c = let l = c .before .before .loop in (
+  rw (c .inverse-factorial2 .ensures) (from-turn invFact (c .before .before .before .before .args .r) (l .p) (13 - l .j) (l .j) (l .j - 1) (13 - (l .j - 1))
+      (l .inv .0) (omega arith) (omega arith)),
+  omega arith,
+)
 
 returns : tie.Need-returns Inv-loop μ-loop
 returns c = let l = c .before .loop in
@@ -29,13 +32,5 @@ returns c = let l = c .before .loop in
 pub exp-series-spec : {M : Type 1} → statement M
 exp-series-spec =
     tie.close
-    (tie.spec
-    Inv-loop
-    μ-loop
-    (λ c κs. search needs)
-    loop-holds
-    (λ c. search needs)
-    (λ c κs. search needs)
-    (λ c. search needs)
-    loop-again
+    (tie.spec Inv-loop μ-loop (λ c κs. search needs) loop-holds (λ c. search needs) (λ c κs. search needs) (λ c. search needs) loop-again
     returns)

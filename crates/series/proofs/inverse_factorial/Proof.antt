@@ -17,7 +17,8 @@ use Rattle.series.proofs.inverse_factorial.Tie as tie
 
 -- the code's table
 table : List ℕ
-table = 1 ∷ 1 ∷ 2 ∷ 6 ∷ 24 ∷ 120 ∷ 720 ∷ 5040 ∷ 40320 ∷ 362880 ∷ 3628800 ∷ 39916800 ∷ 479001600 ∷ 6227020800 ∷ 87178291200 ∷ 1307674368000 ∷ 20922789888000 ∷ 355687428096000 ∷ []
+table = 1 ∷ 1 ∷ 2 ∷ 6 ∷ 24 ∷ 120 ∷ 720 ∷ 5040 ∷ 40320 ∷ 362880 ∷ 3628800 ∷ 39916800 ∷ 479001600 ∷ 6227020800 ∷ 87178291200 ∷ 1307674368000 ∷ 20922789888000 ∷
+    355687428096000 ∷ []
 
 -- the rule: an entry is its place's factorial, and an f64 holds it
 right : ℕ → ℕ → Bool
@@ -37,8 +38,8 @@ returns : tie.Need-returns
 unfolding invFact table
 returns c =
     let k = c .before .args .k in
-    ap (λ (n : ℕ). one ⊘ nat n) (eqb→eq (getD table k 0) (fact k) (both-left (eqb (getD table k 0) (fact k)) (leb (getD table k 0) (2 ^ 53)) (rule k (search needs))))
+    ap (λ (n : ℕ). one ⊘ nat n) (eqb→eq (getD table k 0) (fact k)
+    (both-left (eqb (getD table k 0) (fact k)) (leb (getD table k 0) (2 ^ 53)) (rule k (search needs))))
 
 pub inverse-factorial-spec : {M : Type 1} → statement M
-inverse-factorial-spec =
-    tie.close (tie.spec (λ c. search needs) (λ c. search needs) int-to-float-result returns)
+inverse-factorial-spec = tie.close (tie.spec (λ c. search needs) (λ c. search needs) int-to-float-result returns)

@@ -12,14 +12,5 @@ slice-aggregate-answer-line c = sym (length-take-le _ _ (omega arith))
 pub answer-bytes-spec : {M : Type 1} → statement M
 answer-bytes-spec =
     tie.close
-    (tie.spec
-    (λ c κs. search needs)
-    (λ c. search needs)
-    (λ c. search needs)
-    (λ c κs. search needs)
-    (λ c. search needs)
-    (λ c. search needs)
-    slice-aggregate-answer-line
-    (λ c κs. search needs)
-    (λ c. search needs)
-    (λ c. search needs))
+    (tie.spec (λ c κs. search needs) (λ c. search needs) (λ c. search needs) (λ c κs. search needs) (λ c. search needs) (λ c. search needs)
+    slice-aggregate-answer-line (λ c κs. search needs) (λ c. search needs) (λ c. search needs))

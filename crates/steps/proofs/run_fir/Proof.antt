@@ -21,15 +21,20 @@ loop-holds : tie.Need-loop-holds Inv-loop μ-loop
 loop-holds c = (omega arith, steps-start (fir maxTaps binary64) _ _ _)
 
 slice-read-place : tie.Need-slice-read-place Inv-loop μ-loop
-slice-read-place c = let l = c .before .before .before .before in omega (arith, l .loop .inv .1 .same, l .before .before .before .pre, c .before .before .before .loop-test .taken)
+slice-read-place c = let l = c .before .before .before .before in
+    omega (arith, l .loop .inv .1 .same, l .before .before .before .pre, c .before .before .before .loop-test .taken)
 
 slice-write-output : tie.Need-slice-write-output Inv-loop μ-loop
-slice-write-output c = let l = c .before .before .before .before .before in omega (arith, l .loop .inv .1 .same, l .before .before .before .pre, c .before .before .before .before .loop-test .taken)
+slice-write-output c = let l = c .before .before .before .before .before in
+    omega (arith, l .loop .inv .1 .same, l .before .before .before .pre, c .before .before .before .before .loop-test .taken)
 
 loop-again : tie.Need-loop-again Inv-loop μ-loop
 loop-again c = let l = c .before .before .before .before .before .before in
-    let h = c .before .before .before .before .before .loop-test .taken in
-    (omega arith, steps-turn (fir maxTaps binary64) _ _ _ h (omega (arith, l .loop .inv .1 .same, l .before .before .before .pre)) (c .before .before .before .update .ensures) (c .before .place .ensures) (l .loop .inv .1))
+    let h = c .before .before .before .before .before .loop-test .taken in (
+      omega arith,
+      steps-turn (fir maxTaps binary64) _ _ _ h (omega (arith, l .loop .inv .1 .same, l .before .before .before .pre))
+          (c .before .before .before .update .ensures) (c .before .place .ensures) (l .loop .inv .1),
+    )
 
 same-length : tie.Need-same-length Inv-loop μ-loop
 same-length c = c .before .loop .inv .1 .same
@@ -40,20 +45,6 @@ returns c = steps-done (fir maxTaps binary64) _ _ _ (omega (arith, c .loop-test 
 pub run-fir-spec : {M : Type 1} → statement M
 run-fir-spec =
     tie.close
-    (tie.spec
-    Inv-loop
-    μ-loop
-    loop-holds
-    (λ c. search needs)
-    (λ c. search needs)
-    (λ c κs. search needs)
-    (λ c. search needs)
-    slice-read-place
-    (λ c κs. search needs)
-    (λ c. search needs)
-    slice-write-output
-    (λ c. search needs)
-    (λ c. search needs)
-    loop-again
-    same-length
-    returns)
+    (tie.spec Inv-loop μ-loop loop-holds (λ c. search needs) (λ c. search needs) (λ c κs. search needs) (λ c. search needs) slice-read-place
+    (λ c κs. search needs) (λ c. search needs) slice-write-output (λ c. search needs) (λ c. search needs) loop-again
+    same-length returns)

@@ -14,9 +14,8 @@ returns-3 : tie.Need-returns-3
 returns-3 c = count-many _ (c .if3 .taken)
 
 returns-4 : tie.Need-returns-4
-returns-4 c = let e = c .before .before .before in count-is _ (e .before .run-of .ensures) (e .if1 .left) (c .before .before .if2 .left) (c .before .if3 .left) (c .decimal-after .ensures)
+returns-4 c = let e = c .before .before .before in
+    count-is _ (e .before .run-of .ensures) (e .if1 .left) (c .before .before .if2 .left) (c .before .if3 .left) (c .decimal-after .ensures)
 
 pub count-token-spec : {M : Type 1} → statement M
-count-token-spec =
-    tie.close
-    (tie.spec (λ c κs. search needs) returns returns-2 returns-3 (λ c κs. search needs) returns-4)
+count-token-spec = tie.close (tie.spec (λ c κs. search needs) returns returns-2 returns-3 (λ c κs. search needs) returns-4)

@@ -28,17 +28,11 @@ int-to-float-x c = le→leb (c .before .before .before .decimal-after2 .result) 
 returns-4 : tie.Need-returns-4
 returns-4 c = let e = c .before .before in
     let a = e .before .before in
-    decimal-is _ _ (a .before .before .if1 .left) (a .before .decimal-after .ensures) (a .decimal-after2 .ensures) (e .before .if2 .left) (e .if3 .left) refl (c .power-of-ten .ensures)
+    decimal-is _ _ (a .before .before .if1 .left) (a .before .decimal-after .ensures) (a .decimal-after2 .ensures) (e .before .if2 .left) (e .if3 .left) refl
+    (c .power-of-ten .ensures)
 
 pub decimal-spec : {M : Type 1} → statement M
 decimal-spec =
     tie.close
-    (tie.spec
-    returns
-    (λ c κs. search needs)
-    decimal-after-requires-2
-    returns-2
-    returns-3
-    int-to-float-x
-    (λ c κs. search needs)
-    returns-4)
+    (tie.spec returns (λ c κs. search needs) decimal-after-requires-2 returns-2
+    returns-3 int-to-float-x (λ c κs. search needs) returns-4)

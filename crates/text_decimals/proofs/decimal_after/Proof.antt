@@ -24,7 +24,8 @@ add-value c = omega (arith, result-small _ (c .digit .ensures), c .before .befor
 
 loop-again : tie.Need-loop-again Inv-loop μ-loop
 loop-again c = let e = c .before .before .before in
-    cap-turn _ _ _ _ (e .loop-test .taken) (⊎-elim (λ w. omega (arith, c .before .digit .ensures)) (λ w. omega (arith, c .before .digit .ensures)) (c .if1 .came)) (e .before .loop .inv)
+    cap-turn _ _ _ _ (e .loop-test .taken) (⊎-elim (λ w. omega (arith, c .before .digit .ensures)) (λ w. omega (arith, c .before .digit .ensures))
+    (c .if1 .came)) (e .before .loop .inv)
 
 returns : tie.Need-returns Inv-loop μ-loop
 returns c = cap-done _ _ _ _ (c .loop-test .left) (c .before .loop .inv)
@@ -32,15 +33,5 @@ returns c = cap-done _ _ _ _ (c .loop-test .left) (c .before .loop .inv)
 pub decimal-after-spec : {M : Type 1} → statement M
 decimal-after-spec =
     tie.close
-    (tie.spec
-    Inv-loop
-    μ-loop
-    loop-holds
-    (λ c. search needs)
-    (λ c. search needs)
-    (λ c κs. search needs)
-    add-value
-    (λ c. search needs)
-    (λ c. search needs)
-    loop-again
-    returns)
+    (tie.spec Inv-loop μ-loop loop-holds (λ c. search needs) (λ c. search needs) (λ c κs. search needs) add-value
+    (λ c. search needs) (λ c. search needs) loop-again returns)

@@ -26,26 +26,17 @@ sub-result-3 c = omega (arith, at-least 97 102 _ (sym (c .before .between3 .ensu
 
 returns-3 : tie.Need-returns-3
 unfolding digit
-returns-3 c = let e = c .before .before in let d = e .before .before in rw (← d .before .between .ensures, d .if1 .left, ← e .before .between2 .ensures, e .if2 .left, ← c .before .between3 .ensures, c .if3 .taken)
+returns-3 c = let e = c .before .before in let d = e .before .before in
+    rw (← d .before .between .ensures, d .if1 .left, ← e .before .between2 .ensures, e .if2 .left, ← c .before .between3 .ensures, c .if3 .taken)
 
 returns-4 : tie.Need-returns-4
 unfolding digit
-returns-4 c = let e = c .before .before in let d = e .before .before in rw (← d .before .between .ensures, d .if1 .left, ← e .before .between2 .ensures, e .if2 .left, ← c .before .between3 .ensures, c .if3 .left)
+returns-4 c = let e = c .before .before in let d = e .before .before in
+    rw (← d .before .between .ensures, d .if1 .left, ← e .before .between2 .ensures, e .if2 .left, ← c .before .between3 .ensures, c .if3 .left)
 
 pub digit-spec : {M : Type 1} → statement M
 digit-spec =
     tie.close
-    (tie.spec
-    (λ c κs. search needs)
-    sub-result
-    (λ c. search needs)
-    returns
-    (λ c κs. search needs)
-    sub-result-2
-    (λ c. search needs)
-    returns-2
-    (λ c κs. search needs)
-    sub-result-3
-    (λ c. search needs)
-    returns-3
-    returns-4)
+    (tie.spec (λ c κs. search needs) sub-result (λ c. search needs) returns
+    (λ c κs. search needs) sub-result-2 (λ c. search needs) returns-2 (λ c κs. search needs) sub-result-3
+    (λ c. search needs) returns-3 returns-4)

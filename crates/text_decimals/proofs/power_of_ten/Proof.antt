@@ -10,5 +10,4 @@ unfolding table
 returns c = c .from-bits .ensures ∙ rule (c .before .args .k) (search needs)
 
 pub power-of-ten-spec : {M : Type 1} → statement M
-power-of-ten-spec =
-    tie.close (tie.spec (λ c. search needs) (λ c. search needs) (λ c κs. search needs) returns)
+power-of-ten-spec = tie.close (tie.spec (λ c. search needs) (λ c. search needs) (λ c κs. search needs) returns)

@@ -18,7 +18,11 @@ mul-value : tie.Need-mul-value Inv-loop μ-loop
 mul-value c = omega (arith, hex-fits _ _ _ (c .before .before .before .pre) (c .loop-test .taken) (c .before .loop .inv))
 
 add-value : tie.Need-add-value Inv-loop μ-loop
-add-value c = let e = c .before .before in omega (arith, hex-fits _ _ _ (e .before .before .before .pre) (e .loop-test .taken) (e .before .loop .inv), c .digit .ensures)
+add-value c = let e = c .before .before in omega (
+  arith,
+  hex-fits _ _ _ (e .before .before .before .pre) (e .loop-test .taken) (e .before .loop .inv),
+  c .digit .ensures,
+)
 
 loop-again : tie.Need-loop-again Inv-loop μ-loop
 loop-again c = let e = c .before .before in rw (c .digit .ensures) (hex-turn _ _ _ (e .loop-test .taken) (e .before .loop .inv))
@@ -29,15 +33,5 @@ returns c = hex-done _ _ _ (c .loop-test .left) (c .before .loop .inv)
 pub hexadecimal-spec : {M : Type 1} → statement M
 hexadecimal-spec =
     tie.close
-    (tie.spec
-    Inv-loop
-    μ-loop
-    (λ c. refl)
-    mul-value
-    (λ c. search needs)
-    (λ c κs. search needs)
-    add-value
-    (λ c. search needs)
-    (λ c. search needs)
-    loop-again
-    returns)
+    (tie.spec Inv-loop μ-loop (λ c. refl) mul-value (λ c. search needs) (λ c κs. search needs) add-value
+    (λ c. search needs) (λ c. search needs) loop-again returns)

@@ -24,20 +24,11 @@ unfolding named
 returns-4 c = let b = c .before in
     let e = b .before .before .before in
     let d = e .before .before .before in
-    rw (← d .before .same-bytes .ensures, d .if1 .left, ← e .before .same-bytes2 .ensures, e .if2 .left, ← b .before .same-bytes3 .ensures, b .if3 .left) (c .signed .ensures)
+    rw (← d .before .same-bytes .ensures, d .if1 .left, ← e .before .same-bytes2 .ensures, e .if2 .left, ← b .before .same-bytes3 .ensures, b .if3 .left)
+    (c .signed .ensures)
 
 pub named-spec : {M : Type 1} → statement M
 named-spec =
     tie.close
-    (tie.spec
-    (λ c. search needs)
-    (λ c κs. search needs)
-    returns
-    (λ c. search needs)
-    (λ c κs. search needs)
-    returns-2
-    (λ c. search needs)
-    (λ c κs. search needs)
-    returns-3
-    (λ c κs. search needs)
-    returns-4)
+    (tie.spec (λ c. search needs) (λ c κs. search needs) returns (λ c. search needs) (λ c κs. search needs) returns-2
+    (λ c. search needs) (λ c κs. search needs) returns-3 (λ c κs. search needs) returns-4)

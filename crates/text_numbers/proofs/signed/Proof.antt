@@ -10,7 +10,8 @@ returns : tie.Need-returns
 returns c = signed-none _ (c .if1 .taken)
 
 returns-2 : tie.Need-returns-2
-returns-2 c = let t = c .before .before .before in c .negated .ensures ∙ ap negated (c .before .unsigned .ensures) ∙ signed-minus _ (t .before .before .if1 .left) (t .if2 .taken)
+returns-2 c = let t = c .before .before .before in
+    c .negated .ensures ∙ ap negated (c .before .unsigned .ensures) ∙ signed-minus _ (t .before .before .if1 .left) (t .if2 .taken)
 
 returns-3 : tie.Need-returns-3
 returns-3 c = c .unsigned2 .ensures ∙ signed-plain _ (c .before .before .before .if1 .left) (c .before .if2 .left)
@@ -18,14 +19,5 @@ returns-3 c = c .unsigned2 .ensures ∙ signed-plain _ (c .before .before .befor
 pub signed-spec : {M : Type 1} → statement M
 signed-spec =
     tie.close
-    (tie.spec
-    returns
-    (λ c. search needs)
-    (λ c. search needs)
-    (λ c. search needs)
-    (λ c. search needs)
-    (λ c κs. search needs)
-    (λ c κs. search needs)
-    returns-2
-    (λ c κs. search needs)
-    returns-3)
+    (tie.spec returns (λ c. search needs) (λ c. search needs) (λ c. search needs) (λ c. search needs) (λ c κs. search needs)
+    (λ c κs. search needs) returns-2 (λ c κs. search needs) returns-3)

@@ -14,9 +14,12 @@ returns-2 c = rw (← c .before .before .before .between .ensures, c .before .be
 
 returns-3 : tie.Need-returns-3
 unfolding isHexDigit
-returns-3 c = let e = c .before .before .before in rw (← e .before .between .ensures, e .if1 .left, ← c .before .before .between2 .ensures, c .before .if2 .left) (c .between3 .ensures)
+returns-3 c = let e = c .before .before .before in rw (
+  ← e .before .between .ensures,
+  e .if1 .left,
+  ← c .before .before .between2 .ensures,
+  c .before .if2 .left,
+) (c .between3 .ensures)
 
 pub is-hex-digit-spec : {M : Type 1} → statement M
-is-hex-digit-spec =
-    tie.close
-    (tie.spec (λ c κs. search needs) returns (λ c κs. search needs) returns-2 (λ c κs. search needs) returns-3)
+is-hex-digit-spec = tie.close (tie.spec (λ c κs. search needs) returns (λ c κs. search needs) returns-2 (λ c κs. search needs) returns-3)

@@ -23,14 +23,5 @@ returns-4 c = rw (c .before .enum-told4 .given .1) (c .is-hex-digit .ensures)
 pub is-in-spec : {M : Type 1} → statement M
 is-in-spec =
     tie.close
-    (tie.spec
-    (λ c. search needs)
-    (λ c. search needs)
-    (λ c. search needs)
-    (λ c κs. search needs)
-    (λ c. search needs)
-    (λ c κs. search needs)
-    returns
-    returns-2
-    returns-3
-    returns-4)
+    (tie.spec (λ c. search needs) (λ c. search needs) (λ c. search needs) (λ c κs. search needs) (λ c. search needs) (λ c κs. search needs)
+    returns returns-2 returns-3 returns-4)

@@ -16,10 +16,12 @@ abbrev μ-loop : tie.MeasureT-loop
 μ-loop class bytes from i₀ i = length bytes - i
 
 returns : tie.Need-returns Inv-loop μ-loop
-returns c = run-found (inClass _) _ _ _ (c .before .before .before .loop-test .taken) (sym (c .before .is-in .ensures) ∙ not-true _ (c .if1 .taken)) (c .before .before .before .before .loop .inv)
+returns c = run-found (inClass _) _ _ _ (c .before .before .before .loop-test .taken) (sym (c .before .is-in .ensures) ∙ not-true _ (c .if1 .taken))
+    (c .before .before .before .before .loop .inv)
 
 loop-again : tie.Need-loop-again Inv-loop μ-loop
-loop-again c = run-turn (inClass _) _ _ _ (c .before .before .before .loop-test .taken) (sym (c .before .is-in .ensures) ∙ not-false _ (c .if1 .left)) (c .before .before .before .before .loop .inv)
+loop-again c = run-turn (inClass _) _ _ _ (c .before .before .before .loop-test .taken) (sym (c .before .is-in .ensures) ∙ not-false _ (c .if1 .left))
+    (c .before .before .before .before .loop .inv)
 
 returns-2 : tie.Need-returns-2 Inv-loop μ-loop
 returns-2 c = run-done (inClass _) _ _ _ (c .loop-test .left) (c .before .loop .inv)
@@ -27,14 +29,5 @@ returns-2 c = run-done (inClass _) _ _ _ (c .loop-test .left) (c .before .loop .
 pub run-of-spec : {M : Type 1} → statement M
 run-of-spec =
     tie.close
-    (tie.spec
-    Inv-loop
-    μ-loop
-    (λ c. refl)
-    (λ c. search needs)
-    (λ c κs. search needs)
-    returns
-    (λ c. search needs)
-    (λ c. search needs)
-    loop-again
-    returns-2)
+    (tie.spec Inv-loop μ-loop (λ c. refl) (λ c. search needs) (λ c κs. search needs) returns
+    (λ c. search needs) (λ c. search needs) loop-again returns-2)

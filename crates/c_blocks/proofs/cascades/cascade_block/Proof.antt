@@ -28,9 +28,11 @@ else2 r = r .before .before .before .before .before
 
 accepted : (r : tie.After-block) → let a = start (else1 (else2 r)) .args in
     blockView (r .block .result) (r .block .last .1 .1 .0)
-    ≡ lentBlock (cascadeKind .filter) (fitting cascadeKind (a .numbers .now) (a .counts .now)) (recordOf cascadeKind (a .numbers .now) (a .counts .now)) (a .input .now) (a .output .now)
+    ≡ lentBlock (cascadeKind .filter) (fitting cascadeKind (a .numbers .now) (a .counts .now)) (recordOf cascadeKind (a .numbers .now) (a .counts .now))
+    (a .input .now) (a .output .now)
 accepted r = let a = start (else1 (else2 r)) .args in
-    lend-block cascadeKind (a .numbers .now) (a .counts .now) (fit (else2 r)) (read-is _ _ (fit (else2 r)) (r .before .before .read .ensures)) (a .input .now) (a .output .now) (r .block .ensures)
+    lend-block cascadeKind (a .numbers .now) (a .counts .now) (fit (else2 r)) (read-is _ _ (fit (else2 r)) (r .before .before .read .ensures)) (a .input .now)
+    (a .output .now) (r .block .ensures)
 
 returns : tie.Need-returns
 returns c = block-not-single cascadeKind _ _ _ _ _ (c .if1 .taken)
@@ -43,31 +45,17 @@ returns-3 c = let r = c .before .before .before in
     block-refused cascadeKind _ _ _ _ _ (else1 (else2 r) .if1 .left) (accepted r) (c .if3 .taken)
 
 returns-4 : tie.Need-returns-4
-returns-4 c = let r = c .before .before .before .before .before .before .before .before .before .before in
+returns-4 c = let else3 : tie.Else3 = search in
+    let r : tie.After-block = search in
     let e = else1 (else2 r) in
     let w = c .before .before .before .before .write .ensures in
     let t = fits-places _ _ (fit (else2 r)) in
-    block-accepted cascadeKind _ _ _ _ _ (e .if1 .left) (accepted r) (c .before .before .before .before .before .before .before .if3 .left) (numbers-are _ _ _ t (w .1)) (counts-are _ _ _ t (w .2)) (set-one (start e .args .clouded .now) _ (e .if1 .left))
+    block-accepted cascadeKind _ _ _ _ _ (e .if1 .left) (accepted r) (else3 .if3 .left) (numbers-are _ _ _ t (w .1)) (counts-are _ _ _ t (w .2))
+    (set-one (start e .args .clouded .now) _ (e .if1 .left))
 
 pub cascade-block-spec : {M : Type 1} → statement M
 cascade-block-spec =
     tie.close
-    (tie.spec
-    returns
-    (λ c κs. search needs)
-    (λ c. search needs)
-    (λ c. search needs)
-    returns-2
-    (λ c κs. search needs)
-    (λ c κs. search needs)
-    (λ c. search needs)
-    (λ c. search needs)
-    (λ c. search needs)
-    returns-3
-    (λ c κs. search needs)
-    (λ c. search needs)
-    (λ c. search needs)
-    (λ c. search needs)
-    (λ c. search needs)
-    (λ c. search needs)
-    returns-4)
+    (tie.spec returns (λ c κs. search needs) (λ c. search needs) (λ c. search needs) returns-2
+    (λ c κs. search needs) (λ c κs. search needs) (λ c. search needs) (λ c. search needs) (λ c. search needs) returns-3
+    (λ c κs. search needs) (λ c. search needs) (λ c. search needs) (λ c. search needs) (λ c. search needs) (λ c. search needs) returns-4)

@@ -30,20 +30,11 @@ returns c =
     let ran : tie.After-cascade-block = search in
     let copied : tie.After-copy = search in
     let a = start copied .args in
-    ran .cascade-block .ensures ∙ ap (λ (l : List Float). blockCall cascadeKind (a .numbers .now) (a .counts .now) l (a .part .now) (a .clouded .now)) (lent copied)
+    ran .cascade-block .ensures ∙ ap (λ (l : List Float). blockCall cascadeKind (a .numbers .now) (a .counts .now) l (a .part .now) (a .clouded .now))
+    (lent copied)
 
 pub cascade-part-spec : {M : Type 1} → statement M
 cascade-part-spec =
     tie.close
-    (tie.spec
-    (λ c κs. search needs)
-    (λ c. search needs)
-    (λ c κs. search needs)
-    (λ c. search needs)
-    shared-cascade-block
-    (λ c κs. search needs)
-    (λ c. search needs)
-    (λ c. search needs)
-    (λ c. search needs)
-    (λ c. search needs)
-    returns)
+    (tie.spec (λ c κs. search needs) (λ c. search needs) (λ c κs. search needs) (λ c. search needs) shared-cascade-block
+    (λ c κs. search needs) (λ c. search needs) (λ c. search needs) (λ c. search needs) (λ c. search needs) returns)

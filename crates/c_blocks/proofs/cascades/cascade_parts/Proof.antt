@@ -1,7 +1,7 @@
 -- `c_blocks::cascade_parts` meets its contract.
-use mathlib.Core.Path.{_≡_, refl, sym, _∙_}
+use mathlib.Core.Path.{_≡_, refl}
 use mathlib.Core.List.{_++_}
-use Prim.Native.Nat.{_+_, _-_, _≤_}
+use Prim.Native.Nat.{_+_, _-_}
 use native.Mathlib.Omega.{arith}
 use lib.ListN.{length, getD, take, drop, length-take, length-drop}
 use borrow.Author.Needs.{needs}
@@ -81,7 +81,8 @@ returns c =
     let l = c .before .loop in
     let start : tie.Start Inv-loop μ-loop = search in
     let a = start .args in
-    parts-done cascadeKind cascade-read-back (a .numbers .now) (a .counts .now) (a .buffer .now) (a .clouded .now) (omega (arith, c .loop-test .left, l .inv .3 .place .running .same)) (set-one (l .clouded) _ (l .inv .3 .ready .single)) (l .inv .3)
+    parts-done cascadeKind cascade-read-back (a .numbers .now) (a .counts .now) (a .buffer .now) (a .clouded .now)
+    (omega (arith, c .loop-test .left, l .inv .3 .place .running .same)) (set-one (l .clouded) _ (l .inv .3 .ready .single)) (l .inv .3)
 
 same-length : tie.Need-same-length Inv-loop μ-loop
 same-length c = c .before .loop .inv .0
@@ -95,23 +96,7 @@ same-length-3 c = c .before .loop .inv .3 .place .running .same
 pub cascade-parts-spec : {M : Type 1} → statement M
 cascade-parts-spec =
     tie.close
-    (tie.spec
-    Inv-loop
-    μ-loop
-    loop-holds
-    (λ c κs. omega arith)
-    (λ c. search needs)
-    sub-part
-    part-start
-    part-ends
-    part-requires
-    slice-read-total
-    add-total
-    loop-less
-    loop-again
-    slice-write-clouded
-    same-length
-    same-length-2
-    same-length-3
-    (λ c. search needs)
-    returns)
+    (tie.spec Inv-loop μ-loop loop-holds (λ c κs. omega arith) (λ c. search needs) sub-part
+    part-start part-ends part-requires slice-read-total add-total loop-less
+    loop-again slice-write-clouded same-length same-length-2 same-length-3
+    (λ c. search needs) returns)

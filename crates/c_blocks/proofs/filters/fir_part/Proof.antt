@@ -30,20 +30,11 @@ returns c =
     let ran : tie.After-fir-block = search in
     let copied : tie.After-copy = search in
     let a = start copied .args in
-    ran .fir-block .ensures ∙ ap (λ (l : List Float). blockCall (firKind (a .taps .now)) (a .samples .now) (a .counts .now) l (a .part .now) (a .clouded .now)) (lent copied)
+    ran .fir-block .ensures ∙ ap (λ (l : List Float). blockCall (firKind (a .taps .now)) (a .samples .now) (a .counts .now) l (a .part .now) (a .clouded .now))
+    (lent copied)
 
 pub fir-part-spec : {M : Type 1} → statement M
 fir-part-spec =
     tie.close
-    (tie.spec
-    (λ c κs. search needs)
-    (λ c. search needs)
-    (λ c κs. search needs)
-    (λ c. search needs)
-    shared-fir-block
-    (λ c κs. search needs)
-    (λ c. search needs)
-    (λ c. search needs)
-    (λ c. search needs)
-    (λ c. search needs)
-    returns)
+    (tie.spec (λ c κs. search needs) (λ c. search needs) (λ c κs. search needs) (λ c. search needs) shared-fir-block
+    (λ c κs. search needs) (λ c. search needs) (λ c. search needs) (λ c. search needs) (λ c. search needs) returns)

@@ -1,7 +1,7 @@
 -- `c_blocks::fir_parts` meets its contract.
-use mathlib.Core.Path.{_≡_, refl, sym, _∙_}
+use mathlib.Core.Path.{_≡_, refl}
 use mathlib.Core.List.{_++_}
-use Prim.Native.Nat.{_+_, _-_, _≤_}
+use Prim.Native.Nat.{_+_, _-_}
 use native.Mathlib.Omega.{arith}
 use lib.ListN.{length, getD, take, drop, length-take, length-drop}
 use borrow.Author.Needs.{needs}
@@ -35,7 +35,8 @@ start q = known q .before
 
 turned : (q : tie.After-fir-part Inv-loop μ-loop)
     → (let l = at-loop q .loop in let a = start q .args in let b = q .fir-part in let from = l .from in let to = ended q .part-end .result in
-    Parts (firKind (a .taps .now)) (fir-read-back (a .taps .now)) (a .samples .now) (a .counts .now) (a .buffer .now) (a .clouded .now) (b .last .1 .0) (b .last .1 .1 .0)
+    Parts (firKind (a .taps .now)) (fir-read-back (a .taps .now)) (a .samples .now) (a .counts .now) (a .buffer .now) (a .clouded .now) (b .last .1 .0)
+    (b .last .1 .1 .0)
     (take from (l .buffer) ++ (b .last .1 .1 .1 .0 ++ drop (to - from) (drop from (l .buffer)))) (b .last .1 .1 .1 .1 .0)
     (l .total + getD (b .last .1 .1 .1 .1 .0) 0 0) to)
 turned q =
@@ -43,14 +44,20 @@ turned q =
     let a = start q .args in
     let e = ended q .part-end .ensures in
     let same = l .inv .3 .place .running .same in
-    parts-turn (firKind (a .taps .now)) (fir-read-back (a .taps .now)) (a .samples .now) (a .counts .now) (a .buffer .now) (a .clouded .now) (ended q .part-end .result)
+    parts-turn (firKind (a .taps .now)) (fir-read-back (a .taps .now)) (a .samples .now) (a .counts .now) (a .buffer .now) (a .clouded .now)
+    (ended q .part-end .result)
     (omega (arith, e, l .inv .3 .place .running .within, same)) (omega (arith, e, same)) (q .fir-part .ensures) (l .inv .3)
 
 loop-holds : tie.Need-loop-holds Inv-loop μ-loop
 loop-holds c =
     let start : tie.Start Inv-loop μ-loop = search in
-    let a = start .args in
-    (refl, refl, refl, parts-start (firKind (a .taps .now)) (fir-read-back (a .taps .now)) (a .samples .now) (a .counts .now) (a .buffer .now) (a .clouded .now) (start .pre))
+    let a = start .args in (
+      refl,
+      refl,
+      refl,
+      parts-start (firKind (a .taps .now)) (fir-read-back (a .taps .now)) (a .samples .now) (a .counts .now) (a .buffer .now) (a .clouded .now)
+          (start .pre),
+    )
 
 sub-part : tie.Need-sub-fir-part Inv-loop μ-loop
 sub-part c = let ended : tie.After-part-end Inv-loop μ-loop = search in omega (arith, ended .part-end .ensures)
@@ -84,7 +91,8 @@ returns c =
     let l = c .before .loop in
     let start : tie.Start Inv-loop μ-loop = search in
     let a = start .args in
-    parts-done (firKind (a .taps .now)) (fir-read-back (a .taps .now)) (a .samples .now) (a .counts .now) (a .buffer .now) (a .clouded .now) (omega (arith, c .loop-test .left, l .inv .3 .place .running .same)) (set-one (l .clouded) _ (l .inv .3 .ready .single)) (l .inv .3)
+    parts-done (firKind (a .taps .now)) (fir-read-back (a .taps .now)) (a .samples .now) (a .counts .now) (a .buffer .now) (a .clouded .now)
+    (omega (arith, c .loop-test .left, l .inv .3 .place .running .same)) (set-one (l .clouded) _ (l .inv .3 .ready .single)) (l .inv .3)
 
 same-length : tie.Need-same-length Inv-loop μ-loop
 same-length c = c .before .loop .inv .0
@@ -98,23 +106,7 @@ same-length-3 c = c .before .loop .inv .3 .place .running .same
 pub fir-parts-spec : {M : Type 1} → statement M
 fir-parts-spec =
     tie.close
-    (tie.spec
-    Inv-loop
-    μ-loop
-    loop-holds
-    (λ c κs. omega arith)
-    (λ c. search needs)
-    sub-part
-    part-start
-    part-ends
-    part-requires
-    slice-read-total
-    add-total
-    loop-less
-    loop-again
-    slice-write-clouded
-    same-length
-    same-length-2
-    same-length-3
-    (λ c. search needs)
-    returns)
+    (tie.spec Inv-loop μ-loop loop-holds (λ c κs. omega arith) (λ c. search needs) sub-part
+    part-start part-ends part-requires slice-read-total add-total loop-less
+    loop-again slice-write-clouded same-length same-length-2 same-length-3
+    (λ c. search needs) returns)

@@ -7,4 +7,5 @@ returns : tie.Need-returns
 returns c = let ran : tie.After-cascade-block = search in ran .cascade-block .ensures
 
 pub pulse-cascade-block-spec : {M : Type 1} → statement M
-pulse-cascade-block-spec = tie.close (tie.spec (λ c κs. search needs) (λ c. search needs) (λ c. search needs) (λ c. search needs) (λ c. search needs) returns)
+pulse-cascade-block-spec =
+    tie.close (tie.spec (λ c κs. search needs) (λ c. search needs) (λ c. search needs) (λ c. search needs) (λ c. search needs) returns)

@@ -7,4 +7,5 @@ returns : tie.Need-returns
 returns c = let ran : tie.After-cascade-block-in-place = search in ran .cascade-block-in-place .ensures
 
 pub pulse-cascade-block-in-place-spec : {M : Type 1} → statement M
-pulse-cascade-block-in-place-spec = tie.close (tie.spec (λ c κs. search needs) (λ c. search needs) (λ c. search needs) (λ c. search needs) (λ c. search needs) returns)
+pulse-cascade-block-in-place-spec =
+    tie.close (tie.spec (λ c κs. search needs) (λ c. search needs) (λ c. search needs) (λ c. search needs) (λ c. search needs) returns)

@@ -23,7 +23,8 @@ abbrev else1 : tie.After-reset → tie.Else1
 else1 r = r .before .before .before .before
 
 accepted : (r : tie.After-reset) → let a = start (else1 r) .args in
-    resetView (r .reset .result) ≡ lentReset (cascadeKind .filter) (fitting cascadeKind (a .numbers .now) (a .counts .now)) (recordOf cascadeKind (a .numbers .now) (a .counts .now))
+    resetView (r .reset .result) ≡ lentReset (cascadeKind .filter) (fitting cascadeKind (a .numbers .now) (a .counts .now))
+    (recordOf cascadeKind (a .numbers .now) (a .counts .now))
 accepted r = let a = start (else1 r) .args in
     lend-reset cascadeKind (a .numbers .now) (a .counts .now) (fit (else1 r)) (read-is _ _ (fit (else1 r)) (r .before .read .ensures)) (r .reset .ensures)
 
@@ -34,25 +35,15 @@ returns-2 : tie.Need-returns-2
 returns-2 c = reset-refused cascadeKind _ _ (accepted (c .before)) (c .if2 .taken)
 
 returns-3 : tie.Need-returns-3
-returns-3 c = let w = c .before .before .before .before .write .ensures in
-    let r = c .before .before .before .before .before .before .before .before in
+returns-3 c = let else2 : tie.Else2 = search in
+    let r : tie.After-reset = search in
+    let w = c .before .before .before .before .write .ensures in
     let t = fits-places _ _ (fit (else1 r)) in
-    reset-accepted cascadeKind _ _ (accepted r) (c .before .before .before .before .before .before .before .if2 .left) (numbers-are _ _ _ t (w .1)) (counts-are _ _ _ t (w .2))
+    reset-accepted cascadeKind _ _ (accepted r) (else2 .if2 .left) (numbers-are _ _ _ t (w .1)) (counts-are _ _ _ t (w .2))
 
 pub pulse-cascade-reset-spec : {M : Type 1} → statement M
 pulse-cascade-reset-spec =
     tie.close
-    (tie.spec
-    (λ c κs. search needs)
-    (λ c. search needs)
-    (λ c. search needs)
-    returns
-    (λ c κs. search needs)
-    (λ c κs. search needs)
-    (λ c. search needs)
-    (λ c. search needs)
-    returns-2
-    (λ c κs. search needs)
-    (λ c. search needs)
-    (λ c. search needs)
-    returns-3)
+    (tie.spec (λ c κs. search needs) (λ c. search needs) (λ c. search needs) returns
+    (λ c κs. search needs) (λ c κs. search needs) (λ c. search needs) (λ c. search needs) returns-2
+    (λ c κs. search needs) (λ c. search needs) (λ c. search needs) returns-3)

@@ -31,9 +31,11 @@ abbrev else2 : tie.After-refusal-of → tie.Else2
 else2 r = r .before .before .before .before .before
 
 accepted : (r : tie.After-refusal-of) → let a = start (else1 (else2 r)) .args in
-    updatedView (r .before .update .result) ≡ lentStep (cascadeKind .filter) (fitting cascadeKind (a .numbers .now) (a .counts .now)) (recordOf cascadeKind (a .numbers .now) (a .counts .now)) (a .x)
+    updatedView (r .before .update .result) ≡ lentStep (cascadeKind .filter) (fitting cascadeKind (a .numbers .now) (a .counts .now))
+    (recordOf cascadeKind (a .numbers .now) (a .counts .now)) (a .x)
 accepted r = let a = start (else1 (else2 r)) .args in
-    lend-step cascadeKind (a .numbers .now) (a .counts .now) (fit (else2 r)) (read-is _ _ (fit (else2 r)) (r .before .before .read .ensures)) (a .x) (r .before .update .ensures)
+    lend-step cascadeKind (a .numbers .now) (a .counts .now) (fit (else2 r)) (read-is _ _ (fit (else2 r)) (r .before .before .read .ensures)) (a .x)
+    (r .before .update .ensures)
 
 returns : tie.Need-returns
 returns c = step-not-single cascadeKind _ _ _ _ _ (sym (c .before .single .ensures) ∙ not-true _ (c .if1 .taken))
@@ -46,41 +48,24 @@ returns-3 c = let r = c .before in
     step-refused cascadeKind _ _ _ _ _ (one (else1 (else2 r))) (accepted r) (r .refusal-of .ensures) (c .if3 .taken)
 
 put-requires : tie.Need-put-requires
-put-requires c κs = let e = c .before .before .before .before .before .before .before .before .before .before .before .before .before .before .before .before .before .before .before in single-lengths (start e .args .answer .now) (start e .args .clouded .now) (one e)
+put-requires c κs = let e : tie.Else1 = search in
+    single-lengths (start e .args .answer .now) (start e .args .clouded .now) (one e)
 
 returns-4 : tie.Need-returns-4
-returns-4 c = let r = c .before .before .before .before .before .before .before .before .before .before .before .before .before .before .before in
-    let w = c .before .before .before .before .before .before .before .before .before .before .before .write .ensures in
+returns-4 c = let after-write : tie.After-write = search in
+    let else3 : tie.Else3 = search in
+    let r : tie.After-refusal-of = search in
+    let w = after-write .write .ensures in
     let t = fits-places _ _ (fit (else2 r)) in
     let p = c .before .before .before .before .put .ensures in
-    step-accepted cascadeKind _ _ _ _ _ (one (else1 (else2 r))) (accepted r) (r .refusal-of .ensures) (c .before .before .before .before .before .before .before .before .before .before .before .before .before .before .if3 .left) (numbers-are _ _ _ t (w .1)) (counts-are _ _ _ t (w .2)) (p .0) (p .1)
+    step-accepted cascadeKind _ _ _ _ _ (one (else1 (else2 r))) (accepted r) (r .refusal-of .ensures) (else3 .if3 .left) (numbers-are _ _ _ t (w .1))
+    (counts-are _ _ _ t (w .2)) (p .0) (p .1)
 
 pub pulse-cascade-step-spec : {M : Type 1} → statement M
 pulse-cascade-step-spec =
     tie.close
-    (tie.spec
-    (λ c κs. search needs)
-    (λ c. search needs)
-    (λ c. search needs)
-    returns
-    (λ c κs. search needs)
-    (λ c. search needs)
-    (λ c. search needs)
-    (λ c. search needs)
-    (λ c. search needs)
-    returns-2
-    (λ c κs. search needs)
-    (λ c κs. search needs)
-    (λ c κs. search needs)
-    (λ c. search needs)
-    (λ c. search needs)
-    (λ c. search needs)
-    (λ c. search needs)
-    returns-3
-    (λ c κs. search needs)
-    put-requires
-    (λ c. search needs)
-    (λ c. search needs)
-    (λ c. search needs)
-    (λ c. search needs)
-    returns-4)
+    (tie.spec (λ c κs. search needs) (λ c. search needs) (λ c. search needs) returns
+    (λ c κs. search needs) (λ c. search needs) (λ c. search needs) (λ c. search needs) (λ c. search needs) returns-2
+    (λ c κs. search needs) (λ c κs. search needs) (λ c κs. search needs) (λ c. search needs) (λ c. search needs) (λ c. search needs)
+    (λ c. search needs) returns-3 (λ c κs. search needs) put-requires (λ c. search needs) (λ c. search needs) (λ c. search needs)
+    (λ c. search needs) returns-4)

@@ -4,9 +4,9 @@ use Rattle.capi.proofs.design.pulse_design_butterworth_bp.Statement.{st
 use Rattle.capi.proofs.design.pulse_design_butterworth_bp.Tie as tie
 
 returns : tie.Need-returns
-returns c = rw (← c .before .before .before .before .before .before .before .design-butterworth-bp .ensures) (c .before .before .before .before .hand-out .ensures)
+returns c = let after-design-butterworth-bp : tie.After-design-butterworth-bp = search in
+    rw (← after-design-butterworth-bp .design-butterworth-bp .ensures) (c .before .before .before .before .hand-out .ensures)
 
 pub pulse-design-butterworth-bp-spec : {M : Type 1} → statement M
 pulse-design-butterworth-bp-spec =
-    tie.close
-    (tie.spec (λ c κs. search needs) (λ c κs. search needs) (λ c. search needs) (λ c. search needs) returns)
+    tie.close (tie.spec (λ c κs. search needs) (λ c κs. search needs) (λ c. search needs) (λ c. search needs) returns)

@@ -4,9 +4,9 @@ use Rattle.capi.proofs.design.pulse_design_butterworth_hp.Statement.{st
 use Rattle.capi.proofs.design.pulse_design_butterworth_hp.Tie as tie
 
 returns : tie.Need-returns
-returns c = rw (← c .before .before .before .before .before .before .before .design-butterworth-hp .ensures) (c .before .before .before .before .hand-out .ensures)
+returns c = let after-design-butterworth-hp : tie.After-design-butterworth-hp = search in
+    rw (← after-design-butterworth-hp .design-butterworth-hp .ensures) (c .before .before .before .before .hand-out .ensures)
 
 pub pulse-design-butterworth-hp-spec : {M : Type 1} → statement M
 pulse-design-butterworth-hp-spec =
-    tie.close
-    (tie.spec (λ c κs. search needs) (λ c κs. search needs) (λ c. search needs) (λ c. search needs) returns)
+    tie.close (tie.spec (λ c κs. search needs) (λ c κs. search needs) (λ c. search needs) (λ c. search needs) returns)

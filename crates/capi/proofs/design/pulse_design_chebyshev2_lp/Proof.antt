@@ -4,9 +4,9 @@ use Rattle.capi.proofs.design.pulse_design_chebyshev2_lp.Statement.{sta
 use Rattle.capi.proofs.design.pulse_design_chebyshev2_lp.Tie as tie
 
 returns : tie.Need-returns
-returns c = rw (← c .before .before .before .before .before .before .before .design-chebyshev2-lp .ensures) (c .before .before .before .before .hand-out .ensures)
+returns c = let after-design-chebyshev2-lp : tie.After-design-chebyshev2-lp = search in
+    rw (← after-design-chebyshev2-lp .design-chebyshev2-lp .ensures) (c .before .before .before .before .hand-out .ensures)
 
 pub pulse-design-chebyshev2-lp-spec : {M : Type 1} → statement M
 pulse-design-chebyshev2-lp-spec =
-    tie.close
-    (tie.spec (λ c κs. search needs) (λ c κs. search needs) (λ c. search needs) (λ c. search needs) returns)
+    tie.close (tie.spec (λ c κs. search needs) (λ c κs. search needs) (λ c. search needs) (λ c. search needs) returns)

@@ -4,15 +4,10 @@ use Rattle.capi.proofs.design.pulse_fir_from_coeffs.Statement.{statemen
 use Rattle.capi.proofs.design.pulse_fir_from_coeffs.Tie as tie
 
 returns : tie.Need-returns
-returns c = rw (← c .before .before .before .before .before .before .before .before .before .before .from-coeffs .ensures) (c .before .before .before .before .before .before .hand-out-taps .ensures)
+returns c = let after-hand-out-taps : tie.After-hand-out-taps = search in
+    let after-from-coeffs : tie.After-from-coeffs = search in
+    rw (← after-from-coeffs .from-coeffs .ensures) (after-hand-out-taps .hand-out-taps .ensures)
 
 pub pulse-fir-from-coeffs-spec : {M : Type 1} → statement M
 pulse-fir-from-coeffs-spec =
-    tie.close
-    (tie.spec
-    (λ c κs. search needs)
-    (λ c κs. search needs)
-    (λ c. search needs)
-    (λ c. search needs)
-    (λ c. search needs)
-    returns)
+    tie.close (tie.spec (λ c κs. search needs) (λ c κs. search needs) (λ c. search needs) (λ c. search needs) (λ c. search needs) returns)

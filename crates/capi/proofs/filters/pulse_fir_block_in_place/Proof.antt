@@ -7,4 +7,5 @@ returns : tie.Need-returns
 returns c = let ran : tie.After-fir-block-in-place = search in ran .fir-block-in-place .ensures
 
 pub pulse-fir-block-in-place-spec : {M : Type 1} → statement M
-pulse-fir-block-in-place-spec = tie.close (tie.spec (λ c κs. search needs) (λ c. search needs) (λ c. search needs) (λ c. search needs) (λ c. search needs) returns)
+pulse-fir-block-in-place-spec =
+    tie.close (tie.spec (λ c κs. search needs) (λ c. search needs) (λ c. search needs) (λ c. search needs) (λ c. search needs) returns)

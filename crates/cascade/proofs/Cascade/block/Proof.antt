@@ -9,12 +9,14 @@ use Rattle.cascade.proofs.Cascade.block.Statement.{statement}
 use Rattle.cascade.proofs.Cascade.block.Tie as tie
 
 returns : tie.Need-returns
-returns c = rw (c .refused-block .ensures) (block-refused (cascade binary64) _ _ _ (sym (c .before .before .check .ensures) ∙ not-true _ (c .before .if1 .taken)))
+returns c = rw (c .refused-block .ensures) (block-refused (cascade binary64) _ _ _
+    (sym (c .before .before .check .ensures) ∙ not-true _ (c .before .if1 .taken)))
 
 returns-2 : tie.Need-returns-2
 returns-2 c =
     let e = c .before .before in
-    rw (c .refused-block2 .ensures) (block-short (cascade binary64) _ _ _ (sym (e .before .check .ensures) ∙ not-false _ (e .if1 .left)) (c .before .if2 .taken))
+    rw (c .refused-block2 .ensures) (block-short (cascade binary64) _ _ _ (sym (e .before .check .ensures) ∙ not-false _ (e .if1 .left))
+    (c .before .if2 .taken))
 
 skewed-block-requires : tie.Need-skewed-block-requires
 skewed-block-requires c κs = (c .before .before .skewable .ensures (c .before .if3 .taken), c .before .before .before .if2 .left)
@@ -26,16 +28,6 @@ plain-block-requires c κs = let e = c .before .before .before in
 pub block-spec : {M : Type 1} → statement M
 block-spec =
     tie.close
-    (tie.spec
-    (λ c κs. search needs)
-    (λ c κs. search needs)
-    returns
-    (λ c κs. search needs)
-    returns-2
-    (λ c κs. search needs)
-    skewed-block-requires
-    (λ c. search needs)
-    (λ c. search needs)
-    plain-block-requires
-    (λ c. search needs)
-    (λ c. search needs))
+    (tie.spec (λ c κs. search needs) (λ c κs. search needs) returns (λ c κs. search needs) returns-2
+    (λ c κs. search needs) skewed-block-requires (λ c. search needs) (λ c. search needs) plain-block-requires
+    (λ c. search needs) (λ c. search needs))

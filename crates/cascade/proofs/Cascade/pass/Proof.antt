@@ -12,8 +12,11 @@ returns : tie.Need-returns
 unfolding next mark
 returns c = let s = c .before .before .before in
     let m = c .before .before .moved .ensures in
-    let b = cascadeView (s .args .self) in
-    (m .0, ap₂ flagged (c .clouds .ensures ∙ ap₂ (λ (y : Float) (a : CascadeRecord). s .args .self .clouded || clouding b (s .args .x) y a) (m .0) (m .1)) (m .1))
+    let b = cascadeView (s .args .self) in (
+      m .0,
+      ap₂ flagged (c .clouds .ensures ∙ ap₂ (λ (y : Float) (a : CascadeRecord). s .args .self .clouded || clouding b (s .args .x) y a) (m .0) (m .1))
+          (m .1),
+    )
 
 pub pass-spec : {M : Type 1} → statement M
 pass-spec = tie.close (tie.spec (λ c κs. search needs) (λ c κs. search needs) returns)

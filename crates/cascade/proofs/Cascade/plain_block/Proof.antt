@@ -13,7 +13,8 @@ use Rattle.cascade.proofs.Cascade.plain_block.Statement.{statement}
 use Rattle.cascade.proofs.Cascade.plain_block.Tie as tie
 
 abbrev Inv-loop : tie.InvT-loop
-Inv-loop input output₀ cascade₀ clouded₀ i₀ output kept clouded i = Running (cascade binary64) (cascadeView cascade₀) input output₀ (cascadeView kept) output clouded i
+Inv-loop input output₀ cascade₀ clouded₀ i₀ output kept clouded i = Running (cascade binary64) (cascadeView cascade₀) input output₀ (cascadeView kept) output
+    clouded i
 
 abbrev μ-loop : tie.MeasureT-loop
 μ-loop input output₀ cascade₀ clouded₀ i₀ output kept clouded i = length input - i
@@ -29,23 +30,12 @@ loop-again c =
     (c .before .before .before .before .before .loop .inv)
 
 returns : tie.Need-returns Inv-loop μ-loop
-returns c = let p = c .before .before .before .before .pre in run-done (cascade binary64) (check-next binary64) _ _ _ (c .loop-test .left) (p .0) (p .1) (c .before .loop .inv)
+returns c = let p = c .before .before .before .before .pre in
+    run-done (cascade binary64) (check-next binary64) _ _ _ (c .loop-test .left) (p .0) (p .1) (c .before .loop .inv)
 
 pub plain-block-spec : {M : Type 1} → statement M
 plain-block-spec =
     tie.close
-    (tie.spec
-    Inv-loop
-    μ-loop
-    loop-holds
-    (λ c. search needs)
-    (λ c. search needs)
-    (λ c κs. search needs)
-    (λ c. search needs)
-    (λ c. omega arith)
-    (λ c. omega arith)
-    (λ c. search needs)
-    (λ c. search needs)
-    loop-again
-    (λ c. omega arith)
-    returns)
+    (tie.spec Inv-loop μ-loop loop-holds (λ c. search needs) (λ c. search needs) (λ c κs. search needs) (λ c. search needs)
+    (λ c. omega arith) (λ c. omega arith) (λ c. search needs) (λ c. search needs) loop-again
+    (λ c. omega arith) returns)

@@ -14,8 +14,8 @@ returns c = reset-refused (cascade binary64) _ (sym (c .before .check .ensures) 
 returns-2 : tie.Need-returns-2
 unfolding clearedCascade
 returns-2 c = let e = c .before .before .before .before in
-    reset-done (cascade binary64) _ (sym (e .before .check .ensures) ∙ not-false _ (e .if1 .left)) (rw (c .before .before .reset-sections .ensures, c .reset .ensures))
+    reset-done (cascade binary64) _ (sym (e .before .check .ensures) ∙ not-false _ (e .if1 .left))
+    (rw (c .before .before .reset-sections .ensures, c .reset .ensures))
 
 pub reset-spec : {M : Type 1} → statement M
-reset-spec =
-    tie.close (tie.spec (λ c κs. search needs) returns (λ c κs. search needs) (λ c κs. search needs) returns-2)
+reset-spec = tie.close (tie.spec (λ c κs. search needs) returns (λ c κs. search needs) (λ c κs. search needs) returns-2)

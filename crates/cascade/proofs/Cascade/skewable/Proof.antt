@@ -30,5 +30,4 @@ returns-5 c = λ e. let d = c .before in
     }
 
 pub skewable-spec : {M : Type 1} → statement M
-skewable-spec =
-    tie.close (tie.spec returns returns-2 returns-3 returns-4 (λ c κs. search needs) returns-5)
+skewable-spec = tie.close (tie.spec returns returns-2 returns-3 returns-4 (λ c κs. search needs) returns-5)

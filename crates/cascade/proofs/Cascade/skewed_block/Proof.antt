@@ -6,7 +6,7 @@ use Rattle.cascade.proofs.Cascade.skewed_block.Statement.{statement}
 use Rattle.cascade.proofs.Cascade.skewed_block.Tie as tie
 
 returns : tie.Need-returns
-returns c = let r = c .before .before .before .before .before .before .before in
+returns c = let r : tie.After-run = search in
     let n = r .before .before in
     let p = n .before .before .before .before .pre in
     block-skewed binary64 _ _ _ (n .by-name .ensures) (p .0) (p .1) (r .run .ensures)

@@ -16,12 +16,14 @@ returns c = step-refused (cascade binary64) _ _ (sym (c .before .check .ensures)
 returns-2 : tie.Need-returns-2
 returns-2 c = let b = c .before .before .before in
     let p = c .before .before .pass .ensures in
-    step-answered (cascade binary64) _ _ (sym (b .before .check .ensures) ∙ not-false _ (b .if1 .left)) (answer-is binary64 _ _ true (p .0) (p .1) (c .if2 .taken)) (p .1)
+    step-answered (cascade binary64) _ _ (sym (b .before .check .ensures) ∙ not-false _ (b .if1 .left))
+    (answer-is binary64 _ _ true (p .0) (p .1) (c .if2 .taken)) (p .1)
 
 returns-3 : tie.Need-returns-3
 returns-3 c = let b = c .before .before .before in
     let p = c .before .before .pass .ensures in
-    step-answered (cascade binary64) _ _ (sym (b .before .check .ensures) ∙ not-false _ (b .if1 .left)) (answer-is binary64 _ _ false (p .0) (p .1) (c .if2 .left)) (p .1)
+    step-answered (cascade binary64) _ _ (sym (b .before .check .ensures) ∙ not-false _ (b .if1 .left))
+    (answer-is binary64 _ _ false (p .0) (p .1) (c .if2 .left)) (p .1)
 
 pub update-spec : {M : Type 1} → statement M
 update-spec = tie.close (tie.spec (λ c κs. search needs) returns (λ c κs. search needs) returns-2 returns-3)

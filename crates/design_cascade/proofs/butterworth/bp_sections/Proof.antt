@@ -20,19 +20,14 @@ unfolding bpSections
 returns-2 c = let s = c .before .before .before in
     let n = s .args .order in
     let h = s .pre .1 in
-    let i : n - 1 ≡ length (bpUpTo n (s .args .bw) (s .args .omega0-sq) (n / 2)) = omega (arith, band-length n (s .args .bw) (s .args .omega0-sq) (n / 2), c .before .if1 .left, s .pre .0) in
+    let i : n - 1 ≡ length (bpUpTo n (s .args .bw) (s .args .omega0-sq) (n / 2)) = omega
+    (arith, band-length n (s .args .bw) (s .args .omega0-sq) (n / 2), c .before .if1 .left, s .pre .0) in
     rw (ne-eqb _ _ (c .before .if1 .left))
-    (place sectionView (c .before .before .bp-sections-from-pairs .result) 4 (n - 1) (bpUpTo n (s .args .bw) (s .args .omega0-sq) (n / 2)) (c .bp-biquad-from-lp-real-pole .result) _
+    (place sectionView (c .before .before .bp-sections-from-pairs .result) 4 (n - 1) (bpUpTo n (s .args .bw) (s .args .omega0-sq) (n / 2))
+    (c .bp-biquad-from-lp-real-pole .result) _
     (c .before .before .bp-sections-from-pairs .ensures) i (omega arith) (c .bp-biquad-from-lp-real-pole .ensures))
 
 pub bp-sections-spec : {M : Type 1} → statement M
 bp-sections-spec =
     tie.close
-    (tie.spec
-    (λ c κs. search needs)
-    returns
-    (λ c κs. search needs)
-    (λ c. search needs)
-    (λ c. search needs)
-    (λ c. search needs)
-    returns-2)
+    (tie.spec (λ c κs. search needs) returns (λ c κs. search needs) (λ c. search needs) (λ c. search needs) (λ c. search needs) returns-2)

@@ -1,4 +1,5 @@
--- `design_cascade::butterworth::bp_sections_from_pairs` meets its contract. The loop's invariant: the sections of the first m pairs are in place. The measure is how many
+-- `design_cascade::butterworth::bp_sections_from_pairs` meets its contract. The loop's invariant: the sections of the first m pairs are in place. The measure
+-- is how many
 -- pairs are left.
 use mathlib.Core.Path.{_≡_, _∙_, ap}
 use mathlib.Core.List.{map}
@@ -29,32 +30,40 @@ bp-pair-requires c κs = let s = c .before .before .before in
     (s .pre .0, (omega arith, omega arith))
 
 mul-sections : tie.Need-mul-sections Inv-loop μ-loop
-mul-sections c = let h = c .before .before .before .before .before .before .pre .1 in omega arith
+mul-sections c = let start : tie.Start Inv-loop μ-loop = search in
+    let h = start .pre .1 in omega arith
 
 mul-sections-2 : tie.Need-mul-sections-2 Inv-loop μ-loop
-mul-sections-2 c = let h = c .before .before .before .before .before .before .pre .1 in omega arith
+mul-sections-2 c = let start : tie.Start Inv-loop μ-loop = search in
+    let h = start .pre .1 in omega arith
 
 array-set-from-sections : tie.Need-array-set-from-sections Inv-loop μ-loop
-array-set-from-sections c = let h = c .before .before .before .before .before .before .pre .1 in omega arith
+array-set-from-sections c = let start : tie.Start Inv-loop μ-loop = search in
+    let h = start .pre .1 in omega arith
 
 mul-sections-3 : tie.Need-mul-sections-3 Inv-loop μ-loop
-mul-sections-3 c = let h = c .before .before .before .before .before .before .pre .1 in omega arith
+mul-sections-3 c = let start : tie.Start Inv-loop μ-loop = search in
+    let h = start .pre .1 in omega arith
 
 add-sections : tie.Need-add-sections Inv-loop μ-loop
-add-sections c = let h = c .before .before .before .before .before .before .pre .1 in omega arith
+add-sections c = let start : tie.Start Inv-loop μ-loop = search in
+    let h = start .pre .1 in omega arith
 
 mul-sections-4 : tie.Need-mul-sections-4 Inv-loop μ-loop
-mul-sections-4 c = let h = c .before .before .before .before .before .before .pre .1 in omega arith
+mul-sections-4 c = let start : tie.Start Inv-loop μ-loop = search in
+    let h = start .pre .1 in omega arith
 
 array-set-from-sections-2 : tie.Need-array-set-from-sections-2 Inv-loop μ-loop
-array-set-from-sections-2 c = let h = c .before .before .before .before .before .before .pre .1 in omega arith
+array-set-from-sections-2 c = let start : tie.Start Inv-loop μ-loop = search in
+    let h = start .pre .1 in omega arith
 
 add-m : tie.Need-add-m Inv-loop μ-loop
-add-m c = let h = c .before .before .before .before .before .before .pre .1 in omega arith
+add-m c = let start : tie.Start Inv-loop μ-loop = search in
+    let h = start .pre .1 in omega arith
 
 loop-again : tie.Need-loop-again Inv-loop μ-loop
-loop-again c = let l = c .before .before .before .before .loop in
-    let s = c .before .before .before .before .before .before in
+loop-again c = let s : tie.Start Inv-loop μ-loop = search in
+    let l = c .before .before .before .before .loop in
     let a = s .args in
     let h = s .pre .1 in
     let p = c .before .before .bp-pair in (
@@ -71,20 +80,7 @@ returns c = let l = c .before .loop in
 pub bp-sections-from-pairs-spec : {M : Type 1} → statement M
 bp-sections-from-pairs-spec =
     tie.close
-    (tie.spec
-    Inv-loop
-    μ-loop
-    (λ c κs. search needs)
-    loop-holds
-    bp-pair-requires
-    mul-sections
-    mul-sections-2
-    array-set-from-sections
-    mul-sections-3
-    add-sections
-    mul-sections-4
-    array-set-from-sections-2
-    add-m
-    (λ c. omega arith)
-    loop-again
+    (tie.spec Inv-loop μ-loop (λ c κs. search needs) loop-holds bp-pair-requires
+    mul-sections mul-sections-2 array-set-from-sections mul-sections-3 add-sections
+    mul-sections-4 array-set-from-sections-2 add-m (λ c. omega arith) loop-again
     returns)

@@ -15,11 +15,12 @@ returns c = let v = c .before .before .validate-band in
 
 bp-cascade-requires : tie.Need-bp-cascade-requires
 bp-cascade-requires c κs = let s = c .before .before .before .before in
-    good-band (s .args .low) (s .args .high) (s .args .sample-rate) (s .args .order) (sym (c .before .before .before .validate-band .ensures) ∙ c .before .before .if1 .left)
+    good-band (s .args .low) (s .args .high) (s .args .sample-rate) (s .args .order)
+    (sym (c .before .before .before .validate-band .ensures) ∙ c .before .before .if1 .left)
 
 returns-2 : tie.Need-returns-2
 unfolding butterworthBp
-returns-2 c = let s = c .before .before .before .before .before in
+returns-2 c = let s : tie.Start = search in
     let v = c .before .before .before .before .validate-band in
     ap accepted (c .bp-cascade .ensures ∙ ap₂ (bpCascade (s .args .order)) (c .before .before .warp .ensures) (c .before .warp2 .ensures))
     ∙ is-accepted _ _ (sym (v .ensures) ∙ c .before .before .before .if1 .left)
@@ -27,11 +28,5 @@ returns-2 c = let s = c .before .before .before .before .before in
 pub design-butterworth-bp-spec : {M : Type 1} → statement M
 design-butterworth-bp-spec =
     tie.close
-    (tie.spec
-    (λ c κs. search needs)
-    (λ c κs. search needs)
-    returns
-    (λ c κs. search needs)
-    (λ c κs. search needs)
-    bp-cascade-requires
+    (tie.spec (λ c κs. search needs) (λ c κs. search needs) returns (λ c κs. search needs) (λ c κs. search needs) bp-cascade-requires
     returns-2)

@@ -30,10 +30,5 @@ returns-2 c = let s = c .before .before .before .before in
 pub design-butterworth-hp-spec : {M : Type 1} → statement M
 design-butterworth-hp-spec =
     tie.close
-    (tie.spec
-    (λ c κs. search needs)
-    (λ c κs. search needs)
-    returns
-    (λ c κs. search needs)
-    design-from-prototype-requires
+    (tie.spec (λ c κs. search needs) (λ c κs. search needs) returns (λ c κs. search needs) design-from-prototype-requires
     returns-2)

@@ -9,6 +9,4 @@ unfolding lpPair
 returns c = rw (c .lp-biquad-from-pole .ensures, c .before .sin .ensures, c .before .before .cos .ensures, c .before .before .before .angle .ensures)
 
 pub lp-section-spec : {M : Type 1} → statement M
-lp-section-spec =
-    tie.close
-    (tie.spec (λ c κs. search needs) (λ c κs. search needs) (λ c κs. search needs) (λ c κs. search needs) returns)
+lp-section-spec = tie.close (tie.spec (λ c κs. search needs) (λ c κs. search needs) (λ c κs. search needs) (λ c κs. search needs) returns)

@@ -13,7 +13,7 @@ use Rattle.design_cascade.proofs.chebyshev.cheb2_section.Tie as tie
 
 returns : tie.Need-returns
 unfolding cheb2Pair
-returns c = let d = c .before .before .before .before .before .before in
+returns c = let d : tie.After-pole-pair = search in
     let k = d .before .args .k in
     rw (c .cheb2-lp-biquad .ensures, c .before .before .before .abs .ensures)
     (ap (λ (p : PolePairRecord).
@@ -21,5 +21,4 @@ returns c = let d = c .before .before .before .before .before .before in
     cheb2Biquad (p .sigma ⊘ mag) (neg (p .omega) ⊘ mag) (one ⊘ absOf (p .cosTheta)) k) (d .pole-pair .ensures))
 
 pub cheb2-section-spec : {M : Type 1} → statement M
-cheb2-section-spec =
-    tie.close (tie.spec (λ c κs. search needs) (λ c κs. search needs) (λ c κs. search needs) returns)
+cheb2-section-spec = tie.close (tie.spec (λ c κs. search needs) (λ c κs. search needs) (λ c κs. search needs) returns)

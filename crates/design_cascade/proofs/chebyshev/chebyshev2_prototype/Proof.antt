@@ -15,5 +15,4 @@ returns c = let d = c .before .before .before in rw (c .cosh .ensures, c .before
 
 pub chebyshev2-prototype-spec : {M : Type 1} → statement M
 chebyshev2-prototype-spec =
-    tie.close
-    (tie.spec (λ c κs. search needs) (λ c κs. search needs) int-to-float-a (λ c κs. search needs) (λ c κs. search needs) returns)
+    tie.close (tie.spec (λ c κs. search needs) (λ c κs. search needs) int-to-float-a (λ c κs. search needs) (λ c κs. search needs) returns)

@@ -19,5 +19,4 @@ unfolding thetaOf
 returns c = refl
 
 pub theta-spec : {M : Type 1} → statement M
-theta-spec =
-    tie.close (tie.spec (λ c. search needs) (λ c. search needs) int-to-float-result int-to-float-result-2 returns)
+theta-spec = tie.close (tie.spec (λ c. search needs) (λ c. search needs) int-to-float-result int-to-float-result-2 returns)

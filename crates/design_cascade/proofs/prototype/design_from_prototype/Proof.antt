@@ -9,5 +9,4 @@ unfolding prototypeCascade
 returns c = rw (c .before .sections-from-pairs .ensures, c .first-from-pole .ensures)
 
 pub design-from-prototype-spec : {M : Type 1} → statement M
-design-from-prototype-spec =
-    tie.close (tie.spec (λ c κs. search needs) (λ c κs. search needs) returns)
+design-from-prototype-spec = tie.close (tie.spec (λ c κs. search needs) (λ c κs. search needs) returns)

@@ -14,5 +14,4 @@ unfolding firstOf
 returns-2 c = rw (ne-eqb _ _ (c .before .if1 .left)) (c .part-from-real-pole .ensures)
 
 pub first-from-pole-spec : {M : Type 1} → statement M
-first-from-pole-spec =
-    tie.close (tie.spec (λ c κs. search needs) returns (λ c κs. search needs) returns-2)
+first-from-pole-spec = tie.close (tie.spec (λ c κs. search needs) returns (λ c κs. search needs) returns-2)

@@ -1,4 +1,5 @@
--- `design_cascade::prototype::sections_from_pairs` meets its contract. The loop's invariant: the sections of the first m pairs are in place. The measure is how many
+-- `design_cascade::prototype::sections_from_pairs` meets its contract. The loop's invariant: the sections of the first m pairs are in place. The measure is how
+-- many
 -- are left.
 use mathlib.Core.Path.{_≡_, _∙_, ap}
 use mathlib.Core.List.{map}
@@ -39,8 +40,11 @@ add-m c = let h = c .before .before .before .before .pre .1 in omega arith
 loop-again : tie.Need-loop-again Inv-loop μ-loop
 loop-again c = let l = c .before .before .loop in
     let s = c .before .before .before .before in
-    let h = s .pre .1 in
-    (upTo-turn sectionView (l .sections) (pairOf (s .args .prototype) (s .args .order)) (l .m) (c .section-from-pair .result) (l .inv .0) (omega arith) (c .section-from-pair .ensures), omega arith)
+    let h = s .pre .1 in (
+      upTo-turn sectionView (l .sections) (pairOf (s .args .prototype) (s .args .order)) (l .m) (c .section-from-pair .result) (l .inv .0) (omega arith)
+          (c .section-from-pair .ensures),
+      omega arith,
+    )
 
 returns : tie.Need-returns Inv-loop μ-loop
 returns c = let l = c .before .loop in
@@ -50,15 +54,6 @@ returns c = let l = c .before .loop in
 pub sections-from-pairs-spec : {M : Type 1} → statement M
 sections-from-pairs-spec =
     tie.close
-    (tie.spec
-    Inv-loop
-    μ-loop
-    (λ c κs. search needs)
-    loop-holds
-    section-from-pair-requires
-    mul-sections
-    array-set-from-sections
-    add-m
-    (λ c. omega arith)
-    loop-again
+    (tie.spec Inv-loop μ-loop (λ c κs. search needs) loop-holds section-from-pair-requires
+    mul-sections array-set-from-sections add-m (λ c. omega arith) loop-again
     returns)

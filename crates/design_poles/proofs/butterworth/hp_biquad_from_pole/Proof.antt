@@ -13,7 +13,8 @@ use Rattle.design_poles.proofs.butterworth.hp_biquad_from_pole.Tie as t
 returns : tie.Need-returns
 unfolding hpBiquad
 returns c = c .new .ensures
-    ∙ ap (λ (d : DenominatorRecord). newSection (one ⊘ d .a0) (neg two ⊘ d .a0) (one ⊘ d .a0) (d .a1) (d .a2)) (c .before .before .before .before .denominator-of .ensures)
+    ∙ ap (λ (d : DenominatorRecord). newSection (one ⊘ d .a0) (neg two ⊘ d .a0) (one ⊘ d .a0) (d .a1) (d .a2))
+    (c .before .before .before .before .denominator-of .ensures)
 
 pub hp-biquad-from-pole-spec : {M : Type 1} → statement M
 hp-biquad-from-pole-spec = tie.close (tie.spec (λ c κs. search needs) (λ c κs. search needs) returns)

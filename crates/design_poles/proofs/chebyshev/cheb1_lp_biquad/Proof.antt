@@ -13,7 +13,8 @@ returns : tie.Need-returns
 unfolding cheb1Biquad
 returns c = let a = c .before .before .before .args in
     c .new .ensures
-    ∙ ap (λ (d : DenominatorRecord). let b = ((a .sigma ⊗ a .sigma ⊕ a .omega-im ⊗ a .omega-im) ⊗ (a .k ⊗ a .k)) ⊘ d .a0 in newSection b (two ⊗ b) b (d .a1) (d .a2)) (c .before .before .denominator-of .ensures)
+    ∙ ap (λ (d : DenominatorRecord). let b = ((a .sigma ⊗ a .sigma ⊕ a .omega-im ⊗ a .omega-im) ⊗ (a .k ⊗ a .k)) ⊘ d .a0 in
+    newSection b (two ⊗ b) b (d .a1) (d .a2)) (c .before .before .denominator-of .ensures)
 
 pub cheb1-lp-biquad-spec : {M : Type 1} → statement M
 cheb1-lp-biquad-spec = tie.close (tie.spec (λ c κs. search needs) (λ c κs. search needs) returns)

@@ -16,7 +16,8 @@ returns c = let a = c .before .before .before .before .args in
     let zk = zz ⊗ (a .k ⊗ a .k) in
     let r = (a .sigma ⊗ a .sigma ⊕ a .omega-im ⊗ a .omega-im) ⊘ zz in
     c .new .ensures
-    ∙ ap (λ (d : DenominatorRecord). let b0 = (r ⊗ (one ⊕ zk)) ⊘ d .a0 in newSection b0 (((r ⊗ two) ⊗ (zk ⊖ one)) ⊘ d .a0) b0 (d .a1) (d .a2)) (c .before .before .before .denominator-of .ensures)
+    ∙ ap (λ (d : DenominatorRecord). let b0 = (r ⊗ (one ⊕ zk)) ⊘ d .a0 in newSection b0 (((r ⊗ two) ⊗ (zk ⊖ one)) ⊘ d .a0) b0 (d .a1) (d .a2))
+    (c .before .before .before .denominator-of .ensures)
 
 pub cheb2-lp-biquad-spec : {M : Type 1} → statement M
 cheb2-lp-biquad-spec = tie.close (tie.spec (λ c κs. search needs) (λ c κs. search needs) returns)

@@ -31,13 +31,20 @@ nearest-requires c κs = let x = c .before .before .before .args .x in
 exp-main-requires : tie.Need-exp-main-requires
 exp-main-requires c κs = let d = c .before in
     let x = d .before .before .before .args .x in
-    subst⁻¹ Scale (toZ-ofZ w64 (c .nearest .result) (sfits-of (c .nearest .ok)) ∙ c .nearest .ensures) (ranged x (d .before .before .if1 .left) (d .before .if2 .left) (d .if3 .left) .1)
+    subst⁻¹ Scale (toZ-ofZ w64 (c .nearest .result) (sfits-of (c .nearest .ok)) ∙ c .nearest .ensures)
+    (ranged x (d .before .before .if1 .left) (d .before .if2 .left) (d .if3 .left) .1)
 
 returns-4 : tie.Need-returns-4
 unfolding expOf expCount
 returns-4 c = let d = c .before .before in
-    rw (c .exp-main .ensures, toZ-ofZ w64 (c .before .nearest .result) (sfits-of (c .before .nearest .ok)), c .before .nearest .ensures, d .before .before .if1 .left, d .before .if2 .left, nan-test (d .before .before .before .args .x) ∙ d .if3 .left)
+    rw (
+      c .exp-main .ensures,
+      toZ-ofZ w64 (c .before .nearest .result) (sfits-of (c .before .nearest .ok)),
+      c .before .nearest .ensures,
+      d .before .before .if1 .left,
+      d .before .if2 .left,
+      nan-test (d .before .before .before .args .x) ∙ d .if3 .left,
+    )
 
 pub exp-spec : {M : Type 1} → statement M
-exp-spec =
-    tie.close (tie.spec returns returns-2 returns-3 nearest-requires exp-main-requires returns-4)
+exp-spec = tie.close (tie.spec returns returns-2 returns-3 nearest-requires exp-main-requires returns-4)

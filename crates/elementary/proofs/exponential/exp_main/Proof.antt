@@ -12,5 +12,4 @@ returns c = let s = c .before .before .before in
     rw (c .before .exp-series .ensures, c .before .before .exp-rest .ensures, c .power-of-two .ensures, toZ-ofZ w64 (s .args .k) (s .fits .k))
 
 pub exp-main-spec : {M : Type 1} → statement M
-exp-main-spec =
-    tie.close (tie.spec (λ c κs. search needs) (λ c κs. search needs) (λ c κs. search needs) returns)
+exp-main-spec = tie.close (tie.spec (λ c κs. search needs) (λ c κs. search needs) (λ c κs. search needs) returns)

@@ -53,13 +53,4 @@ returns-2 c = let d = c .before .before in
     ∙ pow2-above k (above-is k (d .before .fits .k) (c .before .if1 .left))
 
 pub power-of-two-spec : {M : Type 1} → statement M
-power-of-two-spec =
-    tie.close
-    (tie.spec
-    (λ c κs. search needs)
-    sub-biased
-    biased-requires
-    add-biased
-    biased-requires-2
-    returns
-    returns-2)
+power-of-two-spec = tie.close (tie.spec (λ c κs. search needs) sub-biased biased-requires add-biased biased-requires-2 returns returns-2)

@@ -8,12 +8,17 @@ use Rattle.elementary.proofs.trigonometric.cos.Statement.{statement}
 use Rattle.elementary.proofs.trigonometric.cos.Tie as tie
 
 reduced-requires : tie.Need-reduced-requires
-reduced-requires c κs = let x = c .before .before .args .x in turnable-within x (turnable-is x (c .before .abs .result) true (c .before .abs .ensures) (c .if1 .taken))
+reduced-requires c κs = let x = c .before .before .args .x in
+    turnable-within x (turnable-is x (c .before .abs .result) true (c .before .abs .ensures) (c .if1 .taken))
 
 returns : tie.Need-returns
 unfolding cosOf
 returns c = let d = c .before .before .before in
-    rw (c .cos-in .ensures, c .before .reduced .ensures, turnable-is (d .before .args .x) (d .abs .result) true (d .abs .ensures) (c .before .before .if1 .taken))
+    rw (
+      c .cos-in .ensures,
+      c .before .reduced .ensures,
+      turnable-is (d .before .args .x) (d .abs .result) true (d .abs .ensures) (c .before .before .if1 .taken),
+    )
 
 returns-2 : tie.Need-returns-2
 unfolding cosOf Ieee.div Ieee.ofBits

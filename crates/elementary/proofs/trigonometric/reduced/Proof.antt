@@ -13,8 +13,12 @@ nearest-requires c κs = turns-within (c .args .x) (c .pre)
 
 returns : tie.Need-returns
 unfolding reducedOf restOf turns
-returns c = rw (c .modulo-four .ensures, c .before .nearest-i64-to-f64 .ensures, toZ-ofZ w64 (c .before .before .nearest .result) (sfits-of (c .before .before .nearest .ok)), c .before .before .nearest .ensures)
+returns c = rw (
+  c .modulo-four .ensures,
+  c .before .nearest-i64-to-f64 .ensures,
+  toZ-ofZ w64 (c .before .before .nearest .result) (sfits-of (c .before .before .nearest .ok)),
+  c .before .before .nearest .ensures,
+)
 
 pub reduced-spec : {M : Type 1} → statement M
-reduced-spec =
-    tie.close (tie.spec nearest-requires (λ c κs. search needs) (λ c κs. search needs) returns)
+reduced-spec = tie.close (tie.spec nearest-requires (λ c κs. search needs) (λ c κs. search needs) returns)

@@ -19,17 +19,13 @@ returns-3 c = rw (c .before .match .keys3, c .sin-rest2 .ensures)
 
 returns-4 : tie.Need-returns-4
 unfolding sinAt
-returns-4 c = rw (third (c .before .before .args .a .quadrant) (c .before .match .rest .0 .0 .1) (c .before .match .rest .0 .1) (c .before .match .rest .1), c .cos-rest2 .ensures)
+returns-4 c = rw (
+  third (c .before .before .args .a .quadrant) (c .before .match .rest .0 .0 .1) (c .before .match .rest .0 .1) (c .before .match .rest .1),
+  c .cos-rest2 .ensures,
+)
 
 pub sin-in-spec : {M : Type 1} → statement M
 sin-in-spec =
     tie.close
-    (tie.spec
-    (λ c κs. search needs)
-    (λ c κs. search needs)
-    (λ c κs. search needs)
-    (λ c κs. search needs)
-    returns
-    returns-2
-    returns-3
-    returns-4)
+    (tie.spec (λ c κs. search needs) (λ c κs. search needs) (λ c κs. search needs) (λ c κs. search needs) returns
+    returns-2 returns-3 returns-4)

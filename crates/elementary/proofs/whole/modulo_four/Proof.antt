@@ -12,11 +12,13 @@ use Rattle.elementary.proofs.whole.modulo_four.Tie as tie
 
 returns : tie.Need-returns
 returns c = let s = c .before .before in
-    ap (λ (n : ℕ). 3 - n % 4) (c .before .magnitude .ensures ∙ ap mag (toZ-ofZ w64 (s .args .z) (s .fits .z))) ∙ sym (ap mod4 (below-is (s .args .z) (s .fits .z) (c .if1 .taken)))
+    ap (λ (n : ℕ). 3 - n % 4) (c .before .magnitude .ensures ∙ ap mag (toZ-ofZ w64 (s .args .z) (s .fits .z)))
+    ∙ sym (ap mod4 (below-is (s .args .z) (s .fits .z) (c .if1 .taken)))
 
 returns-2 : tie.Need-returns-2
 returns-2 c = let s = c .before .before in
-    ap (λ (n : ℕ). n % 4) (c .before .magnitude .ensures ∙ ap mag (toZ-ofZ w64 (s .args .z) (s .fits .z))) ∙ sym (ap mod4 (above-is (s .args .z) (s .fits .z) (c .if1 .left)))
+    ap (λ (n : ℕ). n % 4) (c .before .magnitude .ensures ∙ ap mag (toZ-ofZ w64 (s .args .z) (s .fits .z)))
+    ∙ sym (ap mod4 (above-is (s .args .z) (s .fits .z) (c .if1 .left)))
 
 pub modulo-four-spec : {M : Type 1} → statement M
 modulo-four-spec = tie.close (tie.spec (λ c κs. search needs) (λ c. search needs) returns returns-2)

@@ -21,7 +21,10 @@ small : (t : Float) (n : ℕ) → Within (2 ^ 52) t → n ≡ closest (num t) (d
 small t n h e = le-trans (le-of-eq e) (closest-le t h)
 
 cast-n : tie.Need-cast-n
-cast-n c = record { sfits = lt-of-le-of-lt (small (c .before .args .t) (c .nearest-magnitude .result) (c .before .pre) (c .nearest-magnitude .ensures)) (lit< tt) }
+cast-n c = record {
+  sfits = lt-of-le-of-lt (small (c .before .args .t) (c .nearest-magnitude .result) (c .before .pre) (c .nearest-magnitude .ensures))
+      (lit< tt);
+}
 
 sub-result : tie.Need-sub-result
 sub-result c = let n = c .before .nearest-magnitude in

@@ -12,18 +12,11 @@ use Rattle.fir.proofs.TapRecord.block.Statement.{statement}
 use Rattle.fir.proofs.TapRecord.block.Tie as tie
 
 returns : tie.Need-returns
-returns c = let s = c .before .before .before .before .before .before .before .before .before .before .before in
+returns c = let s : tie.Start = search in
     let t : length (s .args .self .taps) ≡ maxTaps = search needs in
     let h : length (s .args .self .samples) ≡ maxTaps = search needs in
     c .before .before .before .block .ensures ∙ lent-block (fir maxTaps binary64) (fits maxTaps) _ _ _ (lengths-fit maxTaps _ t h)
 
 pub block-spec : {M : Type 1} → statement M
 block-spec =
-    tie.close
-    (tie.spec
-    (λ c. search needs)
-    (λ c. search needs)
-    (λ c. search needs)
-    (λ c κs. search needs)
-    (λ c. search needs)
-    returns)
+    tie.close (tie.spec (λ c. search needs) (λ c. search needs) (λ c. search needs) (λ c κs. search needs) (λ c. search needs) returns)

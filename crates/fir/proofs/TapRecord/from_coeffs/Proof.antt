@@ -19,36 +19,28 @@ returns : tie.Need-returns Inv-loop μ-loop
 returns c = made-none maxTaps (c .before .before .before .args .coeffs .now) (c .before .if1 .taken) (c .blank .ensures)
 
 returns-2 : tie.Need-returns-2 Inv-loop μ-loop
-returns-2 c = made-many maxTaps (c .before .before .before .before .args .coeffs .now) (c .before .before .if1 .left) (c .before .if2 .taken) (c .blank2 .ensures)
+returns-2 c = made-many maxTaps (c .before .before .before .before .args .coeffs .now) (c .before .before .if1 .left) (c .before .if2 .taken)
+    (c .blank2 .ensures)
 
 loop-holds : tie.Need-loop-holds Inv-loop μ-loop
-loop-holds c = (search needs, copy-start (c .before .before .before .before .before .args .coeffs .now) (zeros maxTaps) _ (c .no-numbers2 .ensures))
+loop-holds c = let start : tie.Start Inv-loop μ-loop = search in
+    (search needs, copy-start (start .args .coeffs .now) (zeros maxTaps) _ (c .no-numbers2 .ensures))
 
 loop-again : tie.Need-loop-again Inv-loop μ-loop
-loop-again c = let l = c .before .before in
-    (omega arith, copy-turn (l .before .before .before .before .before .before .args .coeffs .now) (zeros maxTaps) (l .loop .taps) (l .loop .i) (omega arith) (omega arith) (l .loop .inv .1))
+loop-again c = let l = c .before .before in (
+  omega arith,
+  copy-turn (l .before .before .before .before .before .before .args .coeffs .now) (zeros maxTaps) (l .loop .taps) (l .loop .i) (omega arith)
+      (omega arith) (l .loop .inv .1),
+)
 
 returns-3 : tie.Need-returns-3 Inv-loop μ-loop
-returns-3 c = made maxTaps (c .before .before .before .before .before .before .before .args .coeffs .now) (c .before .loop .i) (omega arith) (omega arith) (omega arith) (c .before .before .before .no-numbers .ensures) (c .before .loop .inv .1)
+returns-3 c = let start : tie.Start Inv-loop μ-loop = search in
+    made maxTaps (start .args .coeffs .now) (c .before .loop .i) (omega arith) (omega arith) (omega arith) (c .before .before .before .no-numbers .ensures)
+    (c .before .loop .inv .1)
 
 pub from-coeffs-spec : {M : Type 1} → statement M
 from-coeffs-spec =
     tie.close
-    (tie.spec
-    Inv-loop
-    μ-loop
-    (λ c κs. tt)
-    returns
-    (λ c κs. tt)
-    returns-2
-    (λ c κs. tt)
-    (λ c κs. tt)
-    loop-holds
-    (λ c. omega arith)
-    (λ c. omega arith)
-    (λ c. omega arith)
-    (λ c. omega arith)
-    (λ c. omega arith)
-    (λ c. omega arith)
-    loop-again
-    returns-3)
+    (tie.spec Inv-loop μ-loop (λ c κs. tt) returns (λ c κs. tt) returns-2
+    (λ c κs. tt) (λ c κs. tt) loop-holds (λ c. omega arith) (λ c. omega arith) (λ c. omega arith) (λ c. omega arith) (λ c. omega arith)
+    (λ c. omega arith) loop-again returns-3)

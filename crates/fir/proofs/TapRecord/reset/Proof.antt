@@ -12,12 +12,10 @@ use Rattle.fir.proofs.TapRecord.reset.Statement.{statement}
 use Rattle.fir.proofs.TapRecord.reset.Tie as tie
 
 returns : tie.Need-returns
-returns c = let s = c .before .before .before .before .before .before in
+returns c = let s : tie.Start = search in
     let t : length (s .args .self .taps) ≡ maxTaps = search needs in
     let h : length (s .args .self .samples) ≡ maxTaps = search needs in
     c .before .reset .ensures ∙ lent-reset (fir maxTaps binary64) (fits maxTaps) _ (lengths-fit maxTaps _ t h)
 
 pub reset-spec : {M : Type 1} → statement M
-reset-spec =
-    tie.close
-    (tie.spec (λ c. search needs) (λ c. search needs) (λ c. search needs) (λ c κs. search needs) returns)
+reset-spec = tie.close (tie.spec (λ c. search needs) (λ c. search needs) (λ c. search needs) (λ c κs. search needs) returns)

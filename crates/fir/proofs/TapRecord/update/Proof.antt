@@ -12,12 +12,10 @@ use Rattle.fir.proofs.TapRecord.update.Statement.{statement}
 use Rattle.fir.proofs.TapRecord.update.Tie as tie
 
 returns : tie.Need-returns
-returns c = let s = c .before .before .before .before .before .before in
+returns c = let s : tie.Start = search in
     let t : length (s .args .self .taps) ≡ maxTaps = search needs in
     let h : length (s .args .self .samples) ≡ maxTaps = search needs in
     c .before .update .ensures ∙ lent-step (fir maxTaps binary64) (fits maxTaps) _ _ (lengths-fit maxTaps _ t h)
 
 pub update-spec : {M : Type 1} → statement M
-update-spec =
-    tie.close
-    (tie.spec (λ c. search needs) (λ c. search needs) (λ c. search needs) (λ c κs. search needs) returns)
+update-spec = tie.close (tie.spec (λ c. search needs) (λ c. search needs) (λ c. search needs) (λ c κs. search needs) returns)

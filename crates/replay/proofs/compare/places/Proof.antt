@@ -19,4 +19,5 @@ loop-again c = rw length-set (search needs)
 pub places-spec : {M : Type 1} → statement M
 places-spec =
     tie.close
-    (tie.spec Inv-loop μ-loop (λ c. search needs) (λ c. omega arith) (λ c. omega arith) (λ c. omega arith) (λ c. omega arith) loop-again (λ c. search needs))
+    (tie.spec Inv-loop μ-loop (λ c. search needs) (λ c. omega arith) (λ c. omega arith) (λ c. omega arith) (λ c. omega arith) loop-again
+    (λ c. search needs))

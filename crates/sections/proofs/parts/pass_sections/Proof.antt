@@ -10,25 +10,21 @@ use Rattle.sections.proofs.parts.pass_sections.Statement.{statement}
 use Rattle.sections.proofs.parts.pass_sections.Tie as tie
 
 returns : tie.Need-returns
-returns c = let s = c .before .before .before .before .before .before .before .before .before .before .before .before in
+returns c = let after-turn3 : tie.After-turn3 = search in
+    let after-turn2 : tie.After-turn2 = search in
+    let after-turn : tie.After-turn = search in
+    let s : tie.Start = search in
     let four : length (s .args .t1) ≡ 4 = omega (arith, s .good .0 .1 .0 .1) in
-    let p = c .before .before .before .before .before .before .before .before .before .before .turn .ensures in
-    let q = c .before .before .before .before .before .before .before .before .turn2 .ensures in
-    let r = c .before .before .before .before .before .before .turn3 .ensures in
+    let p = after-turn .turn .ensures in
+    let q = after-turn2 .turn2 .ensures in
+    let r = after-turn3 .turn3 .ensures in
     let t = c .before .before .before .before .turn4 .ensures in
-    four-turns binary64 sectionView (s .args .t1) _ (s .args .count) (s .args .x) four (record { out = p .0; next = p .1 }) (record { out = q .0; next = q .1 }) (record { out = r .0; next = r .1 })
+    four-turns binary64 sectionView (s .args .t1) _ (s .args .count) (s .args .x) four (record { out = p .0; next = p .1 }) (record { out = q .0; next = q .1 })
+    (record { out = r .0; next = r .1 })
     (record { out = t .0; next = t .1 })
 
 pub pass-sections-spec : {M : Type 1} → statement M
 pass-sections-spec =
     tie.close
-    (tie.spec
-    (λ c. search needs)
-    (λ c κs. search needs)
-    (λ c. search needs)
-    (λ c κs. search needs)
-    (λ c. search needs)
-    (λ c κs. search needs)
-    (λ c. search needs)
-    (λ c κs. search needs)
-    returns)
+    (tie.spec (λ c. search needs) (λ c κs. search needs) (λ c. search needs) (λ c κs. search needs) (λ c. search needs)
+    (λ c κs. search needs) (λ c. search needs) (λ c κs. search needs) returns)

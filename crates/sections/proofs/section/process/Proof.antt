@@ -83,10 +83,12 @@ module _ {M : Type 1} (𝓤 : URA M) (H : Heap 𝓤) (A : Atoms 𝓤) (at-mem : 
   abbrev Proc : Contract 𝓤
   Proc = tripleOf 𝓤 H A g.signature (g.spec 𝓤 H A at-mem run)
 
-  right-of : (h : Section) (n : Float) (r : ProcessResult) → ent 𝓤 (ensured 𝓤 H A g.ended (g.clauses 𝓤 H A at-mem run) tt (h, (n, tt)) tt r) (fact 𝓤 (Right h n r))
+  right-of : (h : Section) (n : Float) (r : ProcessResult) → ent 𝓤 (ensured 𝓤 H A g.ended (g.clauses 𝓤 H A at-mem run) tt (h, (n, tt)) tt r) (fact 𝓤
+      (Right h n r))
   right-of h n r = exE 𝓤 _ (λ ws. snd∗ 𝓤 (sem 𝓤 H A (lasts g.ended tt (h, (n, tt)) ws)) (fact 𝓤 (Right h n r)))
 
-module _ {M : Type 1} (𝓤 : URA M) (H : Heap 𝓤) (A : Atoms 𝓤) (W : Given 𝓤 H A) (at-mem : Memory → SProp 𝓤) (run : Routine → Fun 𝓤) (κ : Lft) (q : Share) (b o : ℕ) (γ : GName) (h : Section) (n : Float) where
+module _ {M : Type 1} (𝓤 : URA M) (H : Heap 𝓤) (A : Atoms 𝓤) (W : Given 𝓤 H A) (at-mem : Memory → SProp 𝓤) (run : Routine → Fun 𝓤) (κ : Lft) (q : Share)
+    (b o : ℕ) (γ : GName) (h : Section) (n : Float) where
   abbrev x : Arg
   x = (record { ptr = (b, o); name = γ; now = h }, (n, tt))
 
@@ -97,11 +99,14 @@ module _ {M : Type 1} (𝓤 : URA M) (H : Heap 𝓤) (A : Atoms 𝓤) (W : Given
   Post = walkOf 𝓤 H A f.ended stayed (f.clauses 𝓤 H A at-mem run) .post (((κ, tt), (q, tt), tt, x, at), tt)
 
   exits : (r : ProcessResult) → Right h n r → fits binary64 n ≡ true → fits binary64 (r .out) ≡ true
-      → ent 𝓤 (sep 𝓤 (A .obs γ (T.the-row .coded .code (r .section))) (sep 𝓤 (A .bor κ (Body (mem T.the-row) b o γ)) (A .lft κ q))) (Post (vfloat binary64 (r .out)))
+      → ent 𝓤 (sep 𝓤 (A .obs γ (T.the-row .coded .code (r .section))) (sep 𝓤 (A .bor κ (Body (mem T.the-row) b o γ)) (A .lft κ q)))
+      (Post (vfloat binary64 (r .out)))
   exits r e ok ok′ =
       qed W (‵ (fobs γ (T.the-row .coded .code (r .section))) ∷ ‵ (fbor κ (Body (mem T.the-row) b o γ)) ∷ ‵ (flft κ q) ∷ []) ∵
-      suffices ! _ (ends-at 𝓤 H A f.ended stayed (f.clauses 𝓤 H A at-mem run) W (((κ, tt), (q, tt), tt, x, at), tt) (vfloat binary64 (r .out)) (r .out) (r .section, (tt, tt)) (tt, (tt, tt))) $ says ! e $ nothing ! $ move ! (3 ∷ 0 ∷ []) $ join ! $
-      frame ! $ feqI ! (List Val) (vptr b o ∷ []) (vptr b o ∷ []) refl $ fjoin3 ! $ nothing ! $ owned ! f64 (Is f64) (float-makes 𝓤 H A W binary64) n _ (refl, ok) $ fjoin ! $ move ! (1 ∷ 0 ∷ []) $ fjoin ! $
+      suffices ! _ (ends-at 𝓤 H A f.ended stayed (f.clauses 𝓤 H A at-mem run) W (((κ, tt), (q, tt), tt, x, at), tt) (vfloat binary64 (r .out)) (r .out)
+      (r .section, (tt, tt)) (tt, (tt, tt))) $ says ! e $ nothing ! $ move ! (3 ∷ 0 ∷ []) $ join ! $
+      frame ! $ feqI ! (List Val) (vptr b o ∷ []) (vptr b o ∷ []) refl $ fjoin3 ! $ nothing ! $ owned ! f64 (Is f64) (float-makes 𝓤 H A W binary64) n _
+      (refl, ok) $ fjoin ! $ move ! (1 ∷ 0 ∷ []) $ fjoin ! $
       owned ! f64 (Is f64) (float-makes 𝓤 H A W binary64) (r .out) _ (refl, ok′) $ move ! (1 ∷ 0 ∷ []) $ done !
 
   -- what `process`'s triple binds outside
@@ -111,48 +116,65 @@ module _ {M : Type 1} (𝓤 : URA M) (H : Heap 𝓤) (A : Atoms 𝓤) (W : Given
   goes-proc : Is T.the-row h (section-vals h) → fits binary64 n ≡ true → ent 𝓤 (sem 𝓤 H A ftrue) (Proc 𝓤 H A at-mem run .pre to-proc)
   goes-proc was ok =
       qed W (‵ ftrue ∷ []) ∵ nothing ! $ owned ! f64 (Is f64) (float-makes 𝓤 H A W binary64) n (vfloat binary64 n ∷ []) (refl, ok) $ fjoin ! $
-      owned ! T.the-row (Is T.the-row) ((LL.makes T.the-type T′.the-plain) 𝓤 H A) h (section-vals h) was $ fjoin ! $ move ! (1 ∷ 0 ∷ []) $ join ! $ frame ! $ done !
+      owned ! T.the-row (Is T.the-row) ((LL.makes T.the-type T′.the-plain) 𝓤 H A) h (section-vals h) was $ fjoin ! $ move ! (1 ∷ 0 ∷ []) $ join ! $ frame ! $
+      done !
 
   module _ (C : Calls 𝓤 H) (Λ : Loops 𝓤 H) (fm : FmC 𝓤 H (W .laws) C) (known : Triple 𝓤 (C #by-value) (Proc 𝓤 H A at-mem run)) where
     walk : ent 𝓤 (onEntry 𝓤 H A f.signature (κ, tt) (q, tt) x at) (WpFn 𝓤 H C Λ code.function (vptr b o ∷ vfloat binary64 n ∷ []) Post)
     walk =
-        qed W ((‵ (flft κ q) ⊛ ‵ ftrue) ∷ ‵ (owns (MutRef (named 0) κ T.the-row ∷ f64 ∷ []) x at) ∷ []) ∵ split ! $ move ! (2 ∷ []) $ fsplit ! $ move ! (1 ∷ []) $ fsplit ! $
+        qed W ((‵ (flft κ q) ⊛ ‵ ftrue) ∷ ‵ (owns (MutRef (named 0) κ T.the-row ∷ f64 ∷ []) x at) ∷ []) ∵ split ! $ move ! (2 ∷ []) $ fsplit ! $ move ! (1 ∷ [])
+        $ fsplit ! $
         peeks ! f64 (Is f64) (shows 𝓤 H A f64) n (vfloat binary64 n ∷ []) (λ gn. move ! (2 ∷ []) $ fsplit3 ! $ drop ! $ move ! (0 ∷ 1 ∷ 4 ∷ []) $
         -- [obs; the borrow; the token; what x owns; true; true]
         enter ! C Λ code.function (vptr b o ∷ vfloat binary64 n ∷ []) _ $
-        alloc1 ! (λ l₀. alloc1 ! (λ l₁. alloc1 ! (λ l₂. alloc1 ! (λ l₃. alloc1 ! (λ l₄. alloc0 ! $ params1 ! $ pass1 ! (init ! 6 refl (tt, tt)) $ pass1 ! (init ! 4 refl (tt, passes _ (gn .1))) $ pass0 ! $
-        move ! (10 ∷ 11 ∷ 12 ∷ []) $ opens ! tt T.the-row {h = h} b o (λ vs. spelt ! T.the-row (Is T.the-row) (shows 𝓤 H A T.the-row) (LL.vals T.the-type T′.the-laws) (LL.tells T.the-type T′.the-laws) fullShare h vs b o $
+        alloc1 ! (λ l₀. alloc1 ! (λ l₁. alloc1 ! (λ l₂. alloc1 !
+        (λ l₃. alloc1 ! (λ l₄. alloc0 ! $ params1 ! $ pass1 ! (init ! 6 refl (tt, tt)) $ pass1 ! (init ! 4 refl (tt, passes _ (gn .1))) $ pass0 ! $
+        move ! (10 ∷ 11 ∷ 12 ∷ []) $ opens ! tt T.the-row {h = h} b o
+        (λ vs. spelt ! T.the-row (Is T.the-row) (shows 𝓤 H A T.the-row) (LL.vals T.the-type T′.the-laws) (LL.tells T.the-type T′.the-laws) fullShare h vs b
+        o $
         move ! (1 ∷ []) $ peeks ! T.the-row (Is T.the-row) (shows 𝓤 H A T.the-row) h (section-vals h) (λ was. drop ! $
         -- [the section's cell; the open borrow; obs; auth; room for _4; …; room for _3; …; _2; …; _1; …; room for _0; …]
-        assigns ! (of-opd ! (load ! (from ! (hop ! (look ! 10 refl) (stop !))) (look-raw ! 0 refl))) (from ! (stop !)) (init ! 6 refl (LL.lawful T.the-type T′.the-laws 𝓤 H A W .typed h _ was .0)) $
+        assigns ! (of-opd ! (load ! (from ! (hop ! (look ! 10 refl) (stop !))) (look-raw ! 0 refl))) (from ! (stop !))
+        (init ! 6 refl (LL.lawful T.the-type T′.the-laws 𝓤 H A W .typed h _ was .0)) $
         nothing ! $ use1 W (raw (Proc 𝓤 H A at-mem run .pre to-proc)) (goes-proc was (gn .1)) $
-        calls-at ! fm (Proc 𝓤 H A at-mem run) known to-proc (and-then ! (load ! (from ! (stop !)) (look ! 7 refl)) (and-then ! (load ! (from ! (stop !)) (look ! 9 refl)) (no-more !))) (λ v.
-        use1 W (later (some (λ (r : ProcessResult). (‵ ftrue ⊛ ‵ (P.the-row .own r (v ∷ []))) ⊛ raw (ensured 𝓤 H A g.ended (g.clauses 𝓤 H A at-mem run) tt (h, (n, tt)) tt r)))) (id⊢ 𝓤 _) $ await ! tt $ pick ! (λ r.
+        calls-at ! fm (Proc 𝓤 H A at-mem run) known to-proc (and-then ! (load ! (from ! (stop !)) (look ! 7 refl))
+        (and-then ! (load ! (from ! (stop !)) (look ! 9 refl)) (no-more !))) (λ v.
+        use1 W (later (some (λ (r : ProcessResult). (‵ ftrue ⊛ ‵ (P.the-row .own r (v ∷ []))) ⊛ raw
+        (ensured 𝓤 H A g.ended (g.clauses 𝓤 H A at-mem run) tt (h, (n, tt)) tt r)))) (id⊢ 𝓤 _) $ await ! tt $ pick ! (λ r.
         split ! $ move ! (1 ∷ []) $ use1 W (raw (fact 𝓤 (Right h n r))) (right-of 𝓤 H A at-mem run h n r) $ heard ! (Right h n r) (λ e. split ! $ drop ! $
         peeks ! P.the-row (Is P.the-row) (shows 𝓤 H A P.the-row) r (v ∷ []) (λ is.
         -- [what r owns; the section's cell; …; room for _4 at 5; …]
         land ! (from ! (stop !)) (init ! 5 refl (LL.lawful P.the-type P′.the-laws 𝓤 H A W .typed r _ is .0)) $
         rewrite ! 5 (λ (us : List Val). ‵ (fat fullShare P′.mir l₄ 0 (only us))) (LL.tells P.the-type P′.the-laws r (v ∷ []) is) refl $ drop ! $
         -- [the section's cell; the open borrow; obs; auth; _4; …; _3; …; _2; …; _1; …; room for _0; …]
-        assigns ! (of-opd ! (load ! (from ! (fld ! refl (stop !))) (look-in ! 4 (sub ! 1 refl (whole !))))) (from ! (hop ! (look ! 10 refl) (stop !))) (store-raw ! 0 refl (LL.lawful T.the-type T′.the-laws 𝓤 H A W .typed (r .section) _ (section-is r v is) .0)) $
-        assigns ! (of-opd ! (load ! (from ! (fld ! refl (stop !))) (look-in ! 4 (sub ! 0 refl (whole !))))) (from ! (stop !)) (init ! 12 refl (tt, passes _ (out-fits r v is))) $
-        owned ! T.the-row (Is T.the-row) ((LL.makes T.the-type T′.the-plain) 𝓤 H A) (r .section) _ (section-is r v is) $ move ! (1 ∷ 0 ∷ []) $ closes ! tt T.the-row (r .section) (section-vals (r .section)) b o $
+        assigns ! (of-opd ! (load ! (from ! (fld ! refl (stop !))) (look-in ! 4 (sub ! 1 refl (whole !))))) (from ! (hop ! (look ! 10 refl) (stop !)))
+        (store-raw ! 0 refl (LL.lawful T.the-type T′.the-laws 𝓤 H A W .typed (r .section) _ (section-is r v is) .0)) $
+        assigns ! (of-opd ! (load ! (from ! (fld ! refl (stop !))) (look-in ! 4 (sub ! 0 refl (whole !))))) (from ! (stop !))
+        (init ! 12 refl (tt, passes _ (out-fits r v is))) $
+        owned ! T.the-row (Is T.the-row) ((LL.makes T.the-type T′.the-plain) 𝓤 H A) (r .section) _ (section-is r v is) $ move ! (1 ∷ 0 ∷ []) $ closes ! tt
+        T.the-row (r .section) (section-vals (r .section)) b o $
         -- [obs; the borrow; the token; _4; …; _3; …; _2; …; _1; …; _0; …]
         returns ! (look ! 11 refl) $ forget ! 3 refl $ forget ! 5 refl $ forget ! 7 refl $ forget ! 9 refl $ forget ! 11 refl $
-        move ! (11 ∷ 12 ∷ []) $ free1 ! $ move ! (9 ∷ 10 ∷ []) $ free1 ! $ move ! (7 ∷ 8 ∷ []) $ free1 ! $ move ! (5 ∷ 6 ∷ []) $ free1 ! $ move ! (3 ∷ 4 ∷ []) $ free1 ! $ free0 ! $
+        move ! (11 ∷ 12 ∷ []) $ free1 ! $ move ! (9 ∷ 10 ∷ []) $ free1 ! $ move ! (7 ∷ 8 ∷ []) $ free1 ! $ move ! (5 ∷ 6 ∷ []) $ free1 ! $ move ! (3 ∷ 4 ∷ []) $
+        free1 ! $ free0 ! $
         keep ! (0 ∷ 1 ∷ 2 ∷ []) $ by ! (exits r e (gn .1) (out-fits r v is))))))))))))))
 
 module _ {M : Type 1} (𝓤 : URA M) (H : Heap 𝓤) (A : Atoms 𝓤) (W : Given 𝓤 H A) (at-mem : Memory → SProp 𝓤) (run : Routine → Fun 𝓤) where
-  walks : (C : Calls 𝓤 H) (Λ : Loops 𝓤 H) → FmC 𝓤 H (W .laws) C → Triple 𝓤 (C #by-value) (Proc 𝓤 H A at-mem run) → Walks 𝓤 H A f.ended stayed (WpFn 𝓤 H C Λ code.function) (f.clauses 𝓤 H A at-mem run)
-  walks C Λ fm known = walked 𝓤 H A f.ended stayed (f.clauses 𝓤 H A at-mem run) (WpFn 𝓤 H C Λ code.function) (λ κs. (ptr-vals, (float-vals binary64, tt))) (λ κs. (mut-tells (named 0) (κs .0) T.the-row, (float-tells binary64, tt)))
-      (λ κs qs bounds a _ _. via 𝓤 _ (fst∗ 𝓤 _ (emp 𝓤)) (walk 𝓤 H A W at-mem run (κs .0) (qs .0) (a .0 .ptr .0) (a .0 .ptr .1) (a .0 .name) (a .0 .now) (a .1 .0) C Λ fm known))
+  walks : (C : Calls 𝓤 H) (Λ : Loops 𝓤 H) → FmC 𝓤 H (W .laws) C → Triple 𝓤 (C #by-value) (Proc 𝓤 H A at-mem run)
+      → Walks 𝓤 H A f.ended stayed (WpFn 𝓤 H C Λ code.function) (f.clauses 𝓤 H A at-mem run)
+  walks C Λ fm known = walked 𝓤 H A f.ended stayed (f.clauses 𝓤 H A at-mem run) (WpFn 𝓤 H C Λ code.function) (λ κs. (ptr-vals, (float-vals binary64, tt)))
+      (λ κs. (mut-tells (named 0) (κs .0) T.the-row, (float-tells binary64, tt)))
+      (λ κs qs bounds a _ _. via 𝓤 _ (fst∗ 𝓤 _ (emp 𝓤)) (walk 𝓤 H A W at-mem run (κs .0) (qs .0) (a .0 .ptr .0) (a .0 .ptr .1) (a .0 .name) (a .0 .now)
+      (a .1 .0) C Λ fm known))
 
   goes : AllGo 𝓤 H A W 1 (f.signature .params) (f.ended .kept) stayed
   goes = (goes-ref 𝓤 H A W 1 0 tt (plain (λ _. T.the-row)), (goes-none 𝓤 H A W 1 (λ _. f64) yes (λ κs x f. refl), tt))
 
-meets : {M : Type 1} (𝓤 : URA M) (H : Heap 𝓤) (A : Atoms 𝓤) → Given 𝓤 H A → (at-mem : Memory → SProp 𝓤) (run : Routine → Fun 𝓤) (𝓣 : Tables 𝓤 H) → Triple 𝓤 (𝓣 .C #by-value) (Proc 𝓤 H A at-mem run)
+meets : {M : Type 1} (𝓤 : URA M) (H : Heap 𝓤) (A : Atoms 𝓤) → Given 𝓤 H A → (at-mem : Memory → SProp 𝓤) (run : Routine → Fun 𝓤) (𝓣 : Tables 𝓤 H)
+    → Triple 𝓤 (𝓣 .C #by-value) (Proc 𝓤 H A at-mem run)
     → Meets 𝓤 H A f.signature (WpFn 𝓤 H (𝓣 .C) (𝓣 .Λ) code.function) (f.spec 𝓤 H A at-mem run)
-meets 𝓤 H A W at-mem run 𝓣 known = walk-meets 𝓤 H A f.ended stayed W (goes 𝓤 H A W at-mem run) (f.clauses 𝓤 H A at-mem run) (WpFn 𝓤 H (𝓣 .C) (𝓣 .Λ) code.function) (WpFn-mono 𝓤 H (W .laws) 𝓣 code.function)
+meets 𝓤 H A W at-mem run 𝓣 known = walk-meets 𝓤 H A f.ended stayed W (goes 𝓤 H A W at-mem run) (f.clauses 𝓤 H A at-mem run)
+    (WpFn 𝓤 H (𝓣 .C) (𝓣 .Λ) code.function) (WpFn-mono 𝓤 H (W .laws) 𝓣 code.function)
     (walks 𝓤 H A W at-mem run (𝓣 .C) (𝓣 .Λ) (fmOf 𝓤 H (W .laws) 𝓣) known)
 
 pub process-spec : {M : Type 1} → stated.statement M

@@ -12,13 +12,5 @@ slice-aggregate-answer-ready-made c = sym (length-take-le _ _ (omega arith))
 pub answer-taps-spec : {M : Type 1} → statement M
 answer-taps-spec =
     tie.close
-    (tie.spec
-    (λ c κs. search needs)
-    (λ c κs. search needs)
-    (λ c. search needs)
-    (λ c. search needs)
-    (λ c. search needs)
-    slice-aggregate-answer-ready-made
-    (λ c κs. search needs)
-    (λ c. search needs)
-    (λ c. search needs))
+    (tie.spec (λ c κs. search needs) (λ c κs. search needs) (λ c. search needs) (λ c. search needs) (λ c. search needs)
+    slice-aggregate-answer-ready-made (λ c κs. search needs) (λ c. search needs) (λ c. search needs))

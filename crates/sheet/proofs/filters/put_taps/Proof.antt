@@ -12,10 +12,5 @@ slice-aggregate-put-floats c = sym (length-take-le _ _ (omega arith))
 pub put-taps-spec : {M : Type 1} → statement M
 put-taps-spec =
     tie.close
-    (tie.spec
-    (λ c. search needs)
-    (λ c. search needs)
-    slice-aggregate-put-floats
-    (λ c κs. search needs)
-    (λ c. search needs)
-    (λ c. search needs))
+    (tie.spec (λ c. search needs) (λ c. search needs) slice-aggregate-put-floats
+    (λ c κs. search needs) (λ c. search needs) (λ c. search needs))

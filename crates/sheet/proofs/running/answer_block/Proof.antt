@@ -15,18 +15,6 @@ slice-aggregate-answer-samples-2 c = sym (length-take-le _ _ (omega arith))
 pub answer-block-spec : {M : Type 1} → statement M
 answer-block-spec =
     tie.close
-    (tie.spec
-    (λ c. search needs)
-    (λ c κs. search needs)
-    (λ c. search needs)
-    (λ c κs. search needs)
-    (λ c. search needs)
-    (λ c. search needs)
-    (λ c κs. search needs)
-    (λ c. search needs)
-    slice-aggregate-answer-samples
-    (λ c. search needs)
-    slice-aggregate-answer-samples-2
-    (λ c κs. search needs)
-    (λ c. search needs)
-    (λ c. search needs))
+    (tie.spec (λ c. search needs) (λ c κs. search needs) (λ c. search needs) (λ c κs. search needs) (λ c. search needs) (λ c. search needs)
+    (λ c κs. search needs) (λ c. search needs) slice-aggregate-answer-samples
+    (λ c. search needs) slice-aggregate-answer-samples-2 (λ c κs. search needs) (λ c. search needs) (λ c. search needs))

@@ -14,5 +14,4 @@ unfolding glyph
 returns-2 c = rw (le-ltb (c .before .args .d) 10 (c .if1 .left))
 
 pub glyph-spec : {M : Type 1} → statement M
-glyph-spec =
-    tie.close (tie.spec (λ c. search needs) (λ c. search needs) (λ c. search needs) (λ c. search needs) returns returns-2)
+glyph-spec = tie.close (tie.spec (λ c. search needs) (λ c. search needs) (λ c. search needs) (λ c. search needs) returns returns-2)

@@ -24,8 +24,12 @@ loop-holds c = let a = c .before .before .before .before .args in
 
 loop-again : tie.Need-loop-again Inv-loop μ-loop
 loop-again c = let l = c .before .before in
-    let a = l .before .before .before .before .before .args in
-    (omega arith, l .loop .inv .1, put-turn (a .output .now) (a .at) (a .text .now) (l .loop .output) (l .loop .i) (omega arith) (l .loop .inv .1) (l .loop .inv .2))
+    let a = l .before .before .before .before .before .args in (
+      omega arith,
+      l .loop .inv .1,
+      put-turn (a .output .now) (a .at) (a .text .now) (l .loop .output) (l .loop .i) (omega arith) (l .loop .inv .1)
+          (l .loop .inv .2),
+    )
 
 returns-2 : tie.Need-returns-2 Inv-loop μ-loop
 returns-2 c = let l = c .before in
@@ -35,19 +39,6 @@ returns-2 c = let l = c .before in
 pub put-bytes-spec : {M : Type 1} → statement M
 put-bytes-spec =
     tie.close
-    (tie.spec
-    Inv-loop
-    μ-loop
-    (λ c κs. tt)
-    (λ c. omega arith)
-    returns
-    loop-holds
-    (λ c. omega arith)
-    (λ c. omega arith)
-    (λ c. omega arith)
-    (λ c. omega arith)
-    (λ c. omega arith)
-    loop-again
-    (λ c. omega arith)
-    (λ c. omega arith)
-    returns-2)
+    (tie.spec Inv-loop μ-loop (λ c κs. tt) (λ c. omega arith) returns loop-holds
+    (λ c. omega arith) (λ c. omega arith) (λ c. omega arith) (λ c. omega arith) (λ c. omega arith) loop-again
+    (λ c. omega arith) (λ c. omega arith) returns-2)

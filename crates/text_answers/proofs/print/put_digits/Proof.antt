@@ -32,7 +32,8 @@ loop-again c = let l = c .before .before in
     let a = l .before .before .before .before .args in (
       omega arith,
       l .loop .inv .1,
-      print-turn (a .output .now) (a .at) (a .base) (a .k) (a .n) (l .loop .output) (l .loop .i) (l .loop .rest) (omega arith) (omega arith) (l .loop .inv .1) (c .glyph .ensures) (l .loop .inv .2),
+      print-turn (a .output .now) (a .at) (a .base) (a .k) (a .n) (l .loop .output) (l .loop .i) (l .loop .rest) (omega arith) (omega arith) (l .loop .inv .1)
+          (c .glyph .ensures) (l .loop .inv .2),
     )
 
 returns-2 : tie.Need-returns-2 Inv-loop μ-loop
@@ -43,21 +44,6 @@ returns-2 c = let l = c .before in
 pub put-digits-spec : {M : Type 1} → statement M
 put-digits-spec =
     tie.close
-    (tie.spec
-    Inv-loop
-    μ-loop
-    (λ c κs. tt)
-    (λ c. omega arith)
-    returns
-    loop-holds
-    (λ c. omega arith)
-    (λ c. search needs)
-    glyph-requires
-    (λ c. omega arith)
-    (λ c. omega arith)
-    (λ c. search needs)
-    (λ c. omega arith)
-    loop-again
-    (λ c. omega arith)
-    (λ c. omega arith)
-    returns-2)
+    (tie.spec Inv-loop μ-loop (λ c κs. tt) (λ c. omega arith) returns loop-holds
+    (λ c. omega arith) (λ c. search needs) glyph-requires (λ c. omega arith) (λ c. omega arith) (λ c. search needs) (λ c. omega arith)
+    loop-again (λ c. omega arith) (λ c. omega arith) returns-2)

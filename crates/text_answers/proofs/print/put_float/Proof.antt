@@ -15,12 +15,5 @@ returns-2 c = let b = c .before .before .before .before in
 pub put-float-spec : {M : Type 1} → statement M
 put-float-spec =
     tie.close
-    (tie.spec
-    (λ c. search needs)
-    (λ c κs. tt)
-    (λ c. search needs)
-    returns
-    (λ c κs. tt)
-    (λ c κs. search needs)
-    (λ c. search needs)
-    returns-2)
+    (tie.spec (λ c. search needs) (λ c κs. tt) (λ c. search needs) returns
+    (λ c κs. tt) (λ c κs. search needs) (λ c. search needs) returns-2)
