@@ -21,8 +21,10 @@ use Rattle.c_calls.specs.Kinds.{Kind}
 use Rattle.c_calls.specs.Calls as Calls
 use Rattle.c_calls.specs.Calls.{stepCall, blockCall, blockInPlaceCall, resetCall, unchanged, notStored}
 use Rattle.c_calls.proofs.Laws as Laws
-use Rattle.c_calls.proofs.Laws.{step-not-single, step-unfit, lend-step, block-not-single, block-unfit, lend-block, block-accepted, reset-unfit, lend-reset, reset-accepted}
-use Rattle.c_calls.specs.Lists.{answerShown, countShown, CCall, stepCalled, blockCalled, blockInPlaceCalled, resetCalled, CCalls, ended, called, badlyCalled}
+use Rattle.c_calls.proofs.Laws.{step-not-single, step-unfit, lend-step, block-not-single, block-unfit, lend-block, block-accepted, reset-unfit}
+use Rattle.c_calls.proofs.Laws.{lend-reset, reset-accepted}
+use Rattle.c_calls.specs.Lists.{answerShown, countShown, CCall, stepCalled, blockCalled, blockInPlaceCalled, resetCalled, CCalls, ended, called}
+use Rattle.c_calls.specs.Lists.{badlyCalled}
 
 -- What has to be shown of a kind: the records that are read from slices that fit, and all that calls make of them, are read back as they were written.
 pub record ReadBack (K : Kind) : Type 1 where

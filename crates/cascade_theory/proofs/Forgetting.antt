@@ -16,7 +16,8 @@ use Rattle.cascade_theory.specs.Section.{SectionRecord, clearedSection, 
 use Rattle.cascade_theory.specs.FirstOrder.{FirstOrderRecord, firstOut, firstNext}
 use Rattle.cascade_theory.specs.Parts.{sectionsOut, sectionsNext}
 use Rattle.cascade_theory.specs.Cascade.{CascadeRecord, checkCascade, clearedCascade, clouding, entered, value, moved, mark, next, cascade}
-use Rattle.cascade_theory.specs.Plain.{SectionCoefficients, Coefficients, sectionCoefficients, firstCoefficients, coefficientsOf, sectionOf, firstOf, last, passFirst, passSection, passSections, passAll, plainValue, plainCascade, CascadeForgets}
+use Rattle.cascade_theory.specs.Plain.{SectionCoefficients, Coefficients, sectionCoefficients, firstCoefficients, coefficientsOf, sectionOf, firstOf}
+use Rattle.cascade_theory.specs.Plain.{last, passFirst, passSection, passSections, passAll, plainValue, plainCascade, CascadeForgets}
 use Rattle.cascade_theory.proofs.Laws.{check-next}
 
 -- the record that has these coefficients and has taken no sample

@@ -7,7 +7,8 @@ use native.Mathlib.Numerals.{add-one}
 use native.Mathlib.Nat.{sub-zero, zero-sub, suc-sub-suc}
 use native.Mathlib.Omega.{arith}
 use lib.Dec.{leb, eqb}
-use lib.ListN.{length, take, drop, getD, set, length-take, length-set, getD-replicate, length-append, length-drop, length-replicate, drop-of-length-le, replicate}
+use lib.ListN.{length, take, drop, getD, set, length-take, length-set, getD-replicate, length-append, length-drop, length-replicate, drop-of-length-le}
+use lib.ListN.{replicate}
 use lib.Seq.{drop-cons, set-at, getD-at, length-take-le, getD-take, take-length, take-append-le, take-take}
 use lib.Ieee.{Float, nan, inf, fin, unlike, Format, add, mul}
 use lib.Ieee.Scale.{finite}
@@ -20,7 +21,8 @@ use Rattle.runs.proofs.Laws.{step-answered, reset-done}
 use Rattle.runs.proofs.Lent.{lent-step, lent-reset}
 use Rattle.lists.proofs.Copies.{Copying, snoc-take, copy-turn, copy-done}
 use Rattle.fir_theory.specs.Lent.{lentTaps, fits}
-use Rattle.fir_theory.specs.Fir.{TapsRecord, ReadyMade, pushed, next, heldOf, clouding, sum, value, mark, checkTaps, zeros, blankTaps, clearedTaps, fir, holding, Made, fromCoeffs}
+use Rattle.fir_theory.specs.Fir.{TapsRecord, ReadyMade, pushed, next, heldOf, clouding, sum, value, mark, checkTaps, zeros, blankTaps, clearedTaps, fir}
+use Rattle.fir_theory.specs.Fir.{holding, Made, fromCoeffs}
 
 -- ---- the loop that pushes: i places are done, and carried is what goes next
 abbrev pub Pushing : List Float → Float → List Float → Float → ℕ → Type 0

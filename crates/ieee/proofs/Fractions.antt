@@ -4,7 +4,9 @@ use mathlib.Core.Path.{_≡_, refl, sym, ap, _∙_, subst}
 use mathlib.Core.Logic.{_⊎_, inl, inr}
 use mathlib.Core.Bool.{Bool, true, false, not, cond}
 use Prim.Native.Nat.{ℕ, zero, suc, _+_, _-_, _*_, _/_, _%_, _^_, _≤_, _<_, compare, Ordering, Ordering·lt, Ordering·eq, Ordering·gt}
-use native.Mathlib.Nat.{le-refl, le-trans, le-of-eq, le-of-lt, le-antisymm, lt-of-lt-of-le, lt-of-le-of-lt, lt-irrefl, not-le-of-lt, eq-or-lt-of-le, mul-assoc, mul-comm, mul-one, mul-pos, mul-le-mul-left, mul-le-mul-right, mul-lt-mul-of-pos-right, le-of-mul-le-mul-right, div-add-mod', mod-lt, le-div-iff-mul-le, div-div-eq-div-mul, pow-succ', zero-lt-suc}
+use native.Mathlib.Nat.{le-refl, le-trans, le-of-eq, le-of-lt, le-antisymm, lt-of-lt-of-le, lt-of-le-of-lt, lt-irrefl, not-le-of-lt, eq-or-lt-of-le, mul-assoc}
+use native.Mathlib.Nat.{mul-comm, mul-one, mul-pos, mul-le-mul-left, mul-le-mul-right, mul-lt-mul-of-pos-right, le-of-mul-le-mul-right, div-add-mod', mod-lt}
+use native.Mathlib.Nat.{le-div-iff-mul-le, div-div-eq-div-mul, pow-succ', zero-lt-suc}
 use native.Mathlib.Omega.{arith}
 use lib.Dec.{T, isLe, isEq, ltb, eqb, leb→le, nleb→lt, eqb→eq, eqb-refl, ltb→lt, nltb→le}
 use lib.Arith.{lt-of-le-ne}

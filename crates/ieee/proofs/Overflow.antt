@@ -5,7 +5,8 @@ use mathlib.Core.Path.{_≡_, refl, sym, ap, _∙_, subst}
 use mathlib.Core.Logic.{inl, inr}
 use mathlib.Core.Bool.{Bool}
 use Prim.Native.Nat.{ℕ, zero, suc, _+_, _-_, _*_, _^_, _≤_, _<_}
-use native.Mathlib.Nat.{le-refl, le-step, le-trans, le-of-eq, le-of-lt, add-comm, add-mul, lt-of-lt-of-le, lt-irrefl, not-le-of-lt, eq-or-lt-of-le, mul-assoc, mul-comm, mul-pos, mul-lt-mul-of-pos-right, eq-of-mul-eq-mul-right, pow-succ'}
+use native.Mathlib.Nat.{le-refl, le-step, le-trans, le-of-eq, le-of-lt, add-comm, add-mul, lt-of-lt-of-le, lt-irrefl, not-le-of-lt, eq-or-lt-of-le, mul-assoc}
+use native.Mathlib.Nat.{mul-comm, mul-pos, mul-lt-mul-of-pos-right, eq-of-mul-eq-mul-right, pow-succ'}
 use native.Mathlib.Omega.{arith}
 use lib.Dec.{T}
 use lib.Pow.{pow-add, pow-pos, pow-mono}

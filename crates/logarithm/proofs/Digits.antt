@@ -2,7 +2,9 @@
 use mathlib.Core.Path.{_≡_, refl, sym, ap, _∙_, subst, subst⁻¹}
 use mathlib.Core.Bool.{true, false, _&&_, true≢false}
 use Prim.Native.Nat.{ℕ, zero, suc, _+_, _-_, _*_, _/_, _%_, _^_, _≤_, _<_}
-use native.Mathlib.Nat.{le-trans, le-of-eq, le-of-lt, le-antisymm, lt-of-lt-of-le, lt-of-le-of-lt, lt-irrefl, lt-of-not-le, not-le-of-lt, le-of-suc-le-suc, mul-one, one-mul, mul-assoc, mul-right-comm, mul-pos, mul-le-mul-right, mul-le-mul-left, mul-lt-mul-of-pos-right, eq-of-mul-eq-mul-right, add-comm, zero-mul, zero-lt-suc, mod-eq-of-lt, mod-lt, pow-succ'}
+use native.Mathlib.Nat.{le-trans, le-of-eq, le-of-lt, le-antisymm, lt-of-lt-of-le, lt-of-le-of-lt, lt-irrefl, lt-of-not-le, not-le-of-lt, le-of-suc-le-suc}
+use native.Mathlib.Nat.{mul-one, one-mul, mul-assoc, mul-right-comm, mul-pos, mul-le-mul-right, mul-le-mul-left, mul-lt-mul-of-pos-right}
+use native.Mathlib.Nat.{eq-of-mul-eq-mul-right, add-comm, zero-mul, zero-lt-suc, mod-eq-of-lt, mod-lt, pow-succ'}
 use native.Mathlib.Omega.{arith}
 use lib.IntN.{ℤ, pos, negsuc, _+ℤ_}
 use lib.Dec.{T, leb, ltb, eqb, ltb→lt, lt→ltb, le→leb, lit≤}

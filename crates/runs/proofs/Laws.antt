@@ -12,7 +12,8 @@ use lib.Seq.{drop-cons, take-suc-set, drop-set-lt, drop-drop, take-at, drop-at}
 use borrow.Author.Tests.{ltb-false, lt-ltb, le-ltb}
 use Rattle.runs.specs.Refusals.{orderRefused, ShortOutput}
 use lib.Ieee.{Float, nan}
-use Rattle.runs.specs.Runs.{Answer, Step, refused, marked, isClouded, numberOf, cloudedIn, placed, written, Filter, Reset, Block, refusedBlock, Fresh, answer, step, reset, answers, after, block}
+use Rattle.runs.specs.Runs.{Answer, Step, refused, marked, isClouded, numberOf, cloudedIn, placed, written, Filter, Reset, Block, refusedBlock, Fresh}
+use Rattle.runs.specs.Runs.{answer, step, reset, answers, after, block}
 
 module _ (F : Filter) (s : F .State) where
   pub step-refused : (x : Float) → F .check s ≡ false → record { answer = refused (F .refusal); state = s } ≡ step F s x
