@@ -54,7 +54,7 @@ impl TapRecord {
     pub const MAX_TAPS: usize = limits::MAX_TAPS;
 
     // The largest window code.
-    pub const READY_MADE: u8 = 4;
+    pub const READY_MADE: u8 = fir_step::READY_MADE as u8;
 
     // What a refused design returns: counts 0, numbers +0.
     pub fn blank() -> Self
