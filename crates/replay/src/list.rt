@@ -1,5 +1,7 @@
-// Reading the list. A word is 16 hexadecimal digits in upper case, and a space or a line's end behind them.
+// Reading the list. A word is 16 hexadecimal digits, and a space or a line's end behind them.
 use crate::kinds::KINDS;
+use text_numbers::BitsToken;
+use text_numbers::bits_token;
 
 // The most words that a request asks, and the most that an answer has.
 pub(crate) const MOST: usize = 512;
@@ -13,31 +15,6 @@ pub(crate) struct Word {
     pub good: bool,
 }
 
-// The value of a digit, or 16.
-fn digit(b: u8) -> u64 {
-    if b'0' <= b && b <= b'9' {
-        return (b - b'0') as u64;
-    }
-    if b'A' <= b && b <= b'F' {
-        return ((b - b'A') as u64) + 10;
-    }
-    16
-}
-
-// The word at the front of the text.
-fn decoded(text: &[u8; WIDTH]) -> Word {
-    let mut value: u64 = 0;
-    let mut good = (text[16] == b' ') | (text[16] == b'\n');
-    let mut i: usize = 0;
-    while i < 16 {
-        let d = digit(text[i]);
-        good = good & (d < 16);
-        value = (value << 4) | d;
-        i += 1;
-    }
-    Word { value, good }
-}
-
 // Reads the next word. It is not good where the file ends or has something else.
 pub(crate) fn read_word(fd: i32) -> Word {
     let mut text = [0u8; WIDTH];
@@ -47,7 +24,17 @@ pub(crate) fn read_word(fd: i32) -> Word {
             good: false,
         };
     }
-    decoded(&text)
+    let parted = (text[16] == b' ') | (text[16] == b'\n');
+    match bits_token(&text[..16]) {
+        BitsToken::Bits(value) => Word {
+            value,
+            good: parted,
+        },
+        BitsToken::NotBits => Word {
+            value: 0,
+            good: false,
+        },
+    }
 }
 
 // Reads n words into the first places. Answers whether there is room and all were good.

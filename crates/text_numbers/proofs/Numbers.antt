@@ -1,6 +1,6 @@
 -- The loop over hexadecimal digits, and the written forms of a float.
 use mathlib.Core.Path.{_≡_, refl, sym, ap, _∙_}
-use mathlib.Core.Bool.{and-false}
+use mathlib.Core.Bool.{Bool, true, false, _&&_, cond, and-false}
 use mathlib.Core.List.{List, [], _∷_}
 use Prim.Native.Nat.{ℕ, suc, _+_, _-_, _*_, _^_, _<_, _≤_}
 use native.Mathlib.Nat.{zero-add, le-of-eq}
@@ -8,14 +8,18 @@ use native.Mathlib.Numerals.{add-one}
 use native.Mathlib.Omega.{arith}
 use lib.ListN.{length, getD, drop, take, drop-of-length-le, length-drop}
 use lib.Seq.{drop-cons, take-all}
-use lib.Ieee.{Float, binary64, ofBits}
+use lib.Dec.{eqb}
+use lib.Ieee.{binary64, ofBits}
 use borrow.Author.Tests.{le-leb, lt-leb, eq-eqb, ne-eqb}
 use Rattle.text_tokens.specs.Tokens.{isDigit, isHexDigit, inClass, leading, runEnd}
 use Rattle.text_tokens.specs.declared.Class.the-variants.{Digit, HexDigit}
-use Rattle.text_decimals.specs.Decimals.{digit, valueAfter, decimal}
+use Rattle.text_decimals.specs.Decimals.{all, digit, valueAfter, decimal}
+use Rattle.text_decimals.specs.declared.FloatToken.{FloatToken}
 use Rattle.text_decimals.specs.declared.FloatToken.the-variants.{Number, NotANumber}
 use Rattle.text_decimals.proofs.Digits.{value-cons, value-more, value-less, digits-run, all-from, not-all-from}
-use Rattle.text_numbers.specs.Numbers.{afterWhole, unsigned, negated, signed, named, floatOf}
+use Rattle.text_numbers.specs.Numbers.{afterWhole, unsigned, negated, signed, named, bitsOf, floatOf}
+use Rattle.text_numbers.specs.declared.BitsToken.{BitsToken}
+use Rattle.text_numbers.specs.declared.BitsToken.the-variants.{Bits, NotBits}
 
 -- ---- hexadecimal digits, 16 at most: the loop at place i
 abbrev pub Reading : List ℕ → ℕ → ℕ → Type 0
@@ -72,8 +76,7 @@ module _ (token : List ℕ) (n : ℕ) (run : n ≡ runEnd (inClass Digit) token 
       let l : length (drop (suc n) token) < 1 = simp length-drop (omega arith) in
       rw (← first-run, split h, lt-leb 1 (length (drop (suc n) token)) l, and-false, and-false)
 
-  pub unsigned-is : {e : ℕ} → n < length token → getD token n 0 ≡ 46 → e ≡ runEnd (inClass Digit) token (n + 1) → e ≡ length token → n + 1 < e
-      → decimal (take n token) (take (length token - (n + 1)) (drop (n + 1) token)) ≡ unsigned token
+  pub unsigned-is : {e : ℕ} → n < length token → getD token n 0 ≡ 46 → e ≡ runEnd (inClass Digit) token (n + 1) → e ≡ length token → n + 1 < e → decimal (take n token) (take (length token - (n + 1)) (drop (n + 1) token)) ≡ unsigned token
   unfolding unsigned afterWhole
   unsigned-is {e} h p r q k =
       let a = all-from isDigit token (n + 1) e (r ∙ digits-run token (n + 1)) (omega arith) q in
@@ -98,15 +101,28 @@ signed-plain (b ∷ token) h q = rw (ne-eqb b 45 q)
 
 -- ---- bits, or another form
 module _ (token : List ℕ) where
-  pub float-length : (length token ≡ 16 → ⊥) → named token ≡ floatOf token
-  unfolding floatOf
-  float-length q = rw (ne-eqb (length token) 16 q)
+  pub bits-length : (length token ≡ 16 → ⊥) → NotBits ≡ bitsOf token
+  unfolding bitsOf
+  bits-length q = rw (ne-eqb (length token) 16 q)
 
-  pub float-letters : {e : ℕ} → length token ≡ 16 → e ≡ runEnd (inClass HexDigit) token 0 → (e ≡ 16 → ⊥) → named token ≡ floatOf token
-  unfolding floatOf
-  float-letters {e} l r q = rw (not-all-from isHexDigit token 0 e (r ∙ hex-run token 0) (omega arith) (λ z. q (z ∙ l)), and-false)
+  pub bits-letters : {e : ℕ} → length token ≡ 16 → e ≡ runEnd (inClass HexDigit) token 0 → (e ≡ 16 → ⊥) → NotBits ≡ bitsOf token
+  unfolding bitsOf
+  bits-letters {e} l r q = rw (not-all-from isHexDigit token 0 e (r ∙ hex-run token 0) (omega arith) (λ z. q (z ∙ l)), and-false)
 
-  pub float-bits : {e b : ℕ} {x : Float} → length token ≡ 16 → e ≡ runEnd (inClass HexDigit) token 0 → e ≡ 16 → b ≡ valueAfter 16 0 token → x
-      ≡ ofBits binary64 b → Number x ≡ floatOf token
-  unfolding floatOf
-  float-bits {e} l r q f g = rw (eq-eqb (length token) 16 l, all-from isHexDigit token 0 e (r ∙ hex-run token 0) (omega arith) (q ∙ sym l), g, f)
+  pub bits-are : {e b : ℕ} → length token ≡ 16 → e ≡ runEnd (inClass HexDigit) token 0 → e ≡ 16 → b ≡ valueAfter 16 0 token → Bits b ≡ bitsOf token
+  unfolding bitsOf
+  bits-are {e} l r q f = rw (eq-eqb (length token) 16 l, all-from isHexDigit token 0 e (r ∙ hex-run token 0) (omega arith) (q ∙ sym l), f)
+
+-- the float of a token that is bits, or of one that is none
+unfoldable pub floatFrom : BitsToken → List ℕ → FloatToken
+floatFrom (Bits b) token = Number (ofBits binary64 b)
+floatFrom NotBits token = named token
+
+pub float-is : {r : BitsToken} (token : List ℕ) → r ≡ bitsOf token → floatFrom r token ≡ floatOf token
+unfolding bitsOf floatOf floatFrom
+float-is token e = ap (λ (r : BitsToken). floatFrom r token) e ∙ chosen (eqb (length token) 16 && all isHexDigit token)
+  where
+    chosen : (t : Bool)
+        → floatFrom (cond t (Bits (valueAfter 16 0 token)) NotBits) token ≡ cond t (Number (ofBits binary64 (valueAfter 16 0 token))) (named token)
+    chosen true = refl
+    chosen false = refl

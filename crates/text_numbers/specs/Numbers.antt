@@ -9,6 +9,8 @@ use Rattle.text_tokens.specs.Tokens.{isDigit, isHexDigit, leading, sameBytes}
 use Rattle.text_decimals.specs.Decimals.{all, valueAfter, decimal}
 use Rattle.text_decimals.specs.declared.FloatToken.{FloatToken}
 use Rattle.text_decimals.specs.declared.FloatToken.the-variants.{Number, NotANumber}
+use Rattle.text_numbers.specs.declared.BitsToken.{BitsToken}
+use Rattle.text_numbers.specs.declared.BitsToken.the-variants.{Bits, NotBits}
 
 -- digits, and optionally a point and more digits
 unfoldable pub afterWhole : List ℕ → List ℕ → FloatToken
@@ -33,6 +35,10 @@ named token =
     cond (sameBytes token (78 ∷ 97 ∷ 78 ∷ [])) (Number nan)
     (cond (sameBytes token (105 ∷ 110 ∷ 102 ∷ [])) (Number (inf false))
     (cond (sameBytes token (45 ∷ 105 ∷ 110 ∷ 102 ∷ [])) (Number (inf true)) (signed token)))
+
+-- exactly 16 hexadecimal digits
+unfoldable pub bitsOf : List ℕ → BitsToken
+bitsOf token = cond (eqb (length token) 16 && all isHexDigit token) (Bits (valueAfter 16 0 token)) NotBits
 
 -- exactly 16 hexadecimal digits are the bits, whatever else the token could be
 unfoldable pub floatOf : List ℕ → FloatToken

@@ -3,14 +3,20 @@ ghost use mathlib.Core.Path.{_≡_};
 ghost use Prim.Native.Nat.{_≤_};
 ghost use lib.ListN.{length};
 ghost use Rattle.text_decimals.specs.Decimals.{valueAfter};
-ghost use Rattle.text_numbers.specs.Numbers.{unsigned as Numbers·unsigned, negated as Numbers·negated, signed as Numbers·signed, named as Numbers·named};
-ghost use Rattle.text_numbers.specs.Numbers.{floatOf};
+ghost use Rattle.text_numbers.specs.Numbers.{unsigned as Numbers·unsigned, negated as Numbers·negated};
+ghost use Rattle.text_numbers.specs.Numbers.{signed as Numbers·signed, named as Numbers·named, bitsOf, floatOf};
 use text_decimals::FloatToken;
 use text_decimals::decimal;
 use text_decimals::digit;
 use text_tokens::Class;
 use text_tokens::run_of;
 use text_tokens::same_bytes;
+
+// 64 bits, or that the token is none.
+pub enum BitsToken {
+    Bits(u64),
+    NotBits,
+}
 
 // The number that hexadecimal digits write.
 fn hexadecimal(digits: &[u8]) -> u64
@@ -87,16 +93,24 @@ fn named(token: &[u8]) -> FloatToken
     signed(token)
 }
 
+// Exactly 16 hexadecimal digits.
+pub fn bits_token(token: &[u8]) -> BitsToken
+    ensures { λ r. ⌜ r ≡ bitsOf (now (token .entry)) ⌝ }
+{
+    if token.len() != 16 {
+        return BitsToken::NotBits;
+    }
+    if run_of(Class::HexDigit, token, 0) != 16 {
+        return BitsToken::NotBits;
+    }
+    BitsToken::Bits(hexadecimal(token))
+}
+
 pub fn float_token(token: &[u8]) -> FloatToken
     ensures { λ r. ⌜ r ≡ floatOf (now (token .entry)) ⌝ }
 {
-    if token.len() != 16 {
-        return named(token);
+    match bits_token(token) {
+        BitsToken::Bits(bits) => FloatToken::Number(ieee::from_bits(bits)),
+        BitsToken::NotBits => named(token),
     }
-    if run_of(Class::HexDigit, token, 0) != 16 {
-        return named(token);
-    }
-    let bits = hexadecimal(token);
-    let x = ieee::from_bits(bits);
-    FloatToken::Number(x)
 }
