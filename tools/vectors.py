@@ -1,5 +1,5 @@
 #!/usr/bin/env python3
-"""Makes the vectors of the elementary functions: crates/vectors/src/table.rt and crates/vectors/stdout.
+"""Makes the vectors of the elementary functions, crates/vectors/data/vectors, and the program's crates/vectors/stdout.
 
 Usage, from the repository's root: tools/vectors.py [--check]. --check writes nothing and fails where a file differs.
 
@@ -287,22 +287,16 @@ def check_machine():
             assert sqrt(a) == of(math.sqrt(x)), hex(a)
 
 
-def table(rows):
-    def array(name, comment, kind, numbers):
-        body = "".join(f"    {n},\n" for n in numbers)
-        return f"// {comment}\npub const {name}: [{kind}; {len(rows)}] = [\n{body}];\n"
-    return ("// Made by tools/vectors.py. Each place of the three tables is one vector.\n\n"
-            + f"pub const COUNT: usize = {len(rows)};\n\n"
-            + array("FUNCTION", "Which function, as `main.rt` numbers them.", "u64", [str(p) for p, _, _ in rows]) + "\n"
-            + array("INPUT", "The input's bit pattern.", "u64", [f"0x{b:016x}" for _, b, _ in rows]) + "\n"
-            + array("ANSWER", "The answer's bit pattern, a NaN as 7FF8000000000000.", "u64", [f"0x{r:016x}" for _, _, r in rows]))
+def listed(rows):
+    """The list: a line with the number of vectors, and a line for each. Every number is 16 hexadecimal digits."""
+    return "".join(" ".join(f"{n:016X}" for n in line) + "\n" for line in [[len(rows)]] + rows)
 
 
 def main():
     check_machine()
     rows = [(p, b, FUNCTIONS[p](b)) for p, b in dict.fromkeys(inputs())]
     text = "".join(f"{NAMES[p]} {b:016x} {r:016x}\n" for p, b, r in rows) + f"{len(rows)} vectors, {len(rows)} agree\n"
-    files = {"crates/vectors/src/table.rt": table(rows), "crates/vectors/stdout": text}
+    files = {"crates/vectors/data/vectors": listed(rows), "crates/vectors/stdout": text}
     for path, content in files.items():
         if "--check" in sys.argv:
             if open(path).read() != content:

@@ -1,43 +1,49 @@
-// Runs the vectors of the elementary functions: prints each input and answer as bit patterns, compares the answer with
-// the stored one, and ends with how many agree. tools/vectors.py makes the table and the expected output.
+// Runs the vectors of the elementary functions, the file `vectors`: prints each input and answer as bit patterns, compares
+// the answer with the stored one, and ends with how many agree, or with where the list is wrong. tools/vectors.py makes the
+// file and the expected output.
 ghost use Prim.Native.Nat.{_≤_};
 
-mod table;
+mod list;
 
 use libc::STDOUT_FILENO;
-use table::ANSWER;
-use table::COUNT;
-use table::FUNCTION;
-use table::INPUT;
+use list::FUNCTIONS;
+use list::Vector;
+use text_numbers::BitsToken;
+use text_tokens::Class;
+use text_tokens::run_of;
+
+// The bytes of a function's name, with spaces behind it.
+const WIDTH: usize = 9;
+
+// The name that begins at a place of a row of names, and a space.
+fn print_from(names: &[u8], at: usize) {
+    let end = run_of(Class::NotSpace, names, at);
+    if at <= end {
+        if end < names.len() {
+            io::write_all(STDOUT_FILENO, &names[at..=end]);
+        }
+    }
+}
 
 fn print_name(function: u64) {
-    match function {
-        0 => io::write_all(STDOUT_FILENO, b"sqrt "),
-        1 => io::write_all(STDOUT_FILENO, b"abs "),
-        2 => io::write_all(STDOUT_FILENO, b"max_zero "),
-        3 => io::write_all(STDOUT_FILENO, b"sin "),
-        4 => io::write_all(STDOUT_FILENO, b"cos "),
-        5 => io::write_all(STDOUT_FILENO, b"tan "),
-        6 => io::write_all(STDOUT_FILENO, b"exp "),
-        7 => io::write_all(STDOUT_FILENO, b"pow10 "),
-        8 => io::write_all(STDOUT_FILENO, b"ln "),
-        9 => io::write_all(STDOUT_FILENO, b"sinh "),
-        10 => io::write_all(STDOUT_FILENO, b"cosh "),
-        _ => io::write_all(STDOUT_FILENO, b"arcsinh "),
+    if function < FUNCTIONS {
+        print_from(
+            b"sqrt     abs      max_zero sin      cos      tan      exp      pow10    ln       sinh     cosh     arcsinh  ",
+            (function as usize) * WIDTH,
+        );
     }
-    ;
 }
 
 // One line of output; answers 1 where the function gives the stored answer, and 0 where it does not.
-fn vector(function: u64, input: u64, stored: u64) -> u64
+fn try_vector(v: Vector) -> u64
     ensures counted { λ r. ⌜ r ≤ 1 ⌝ }
 {
-    let y = ieee::to_bits(exports::recorder_elementary(function, ieee::from_bits(input)));
-    print_name(function);
-    io::print_hex(STDOUT_FILENO, input, 16);
+    let y = ieee::to_bits(exports::recorder_elementary(v.function, ieee::from_bits(v.input)));
+    print_name(v.function);
+    io::print_hex(STDOUT_FILENO, v.input, 16);
     io::write_all(STDOUT_FILENO, b" ");
     io::print_hex(STDOUT_FILENO, y, 16);
-    if y != stored {
+    if y != v.answer {
         io::write_all(STDOUT_FILENO, b" differs\n");
         return 0;
     }
@@ -45,21 +51,60 @@ fn vector(function: u64, input: u64, stored: u64) -> u64
     1
 }
 
-// How many vectors agree.
-fn run() -> u64 {
+// How many vectors were run, and how many of them agree.
+struct Tried {
+    run: u64,
+    agree: u64,
+}
+
+// Runs the vectors up to the count, or to the first line that is none.
+fn try_vectors(fd: i32, count: u64) -> Tried {
     let mut agree: u64 = 0;
-    let mut i: usize = 0;
-    while i < COUNT {
-        agree += vector(FUNCTION[i], INPUT[i], ANSWER[i]);
-        i += 1;
+    let mut run: u64 = 0;
+    while run < count {
+        let v = list::read_vector(fd);
+        if !v.good {
+            return Tried { run, agree };
+        }
+        agree += try_vector(v);
+        run += 1;
     }
-    agree
+    Tried { run, agree }
+}
+
+fn print_count(n: u64, behind: &[u8]) {
+    io::print_decimal(STDOUT_FILENO, n);
+    io::write_all(STDOUT_FILENO, behind);
+}
+
+// Runs a list of so many vectors. It is wrong where a line is no vector, and where it goes on after the last.
+fn try_list(fd: i32, count: u64) {
+    let tried = try_vectors(fd, count);
+    let mut more = [0u8; 1];
+    if (tried.run < count) | (io::read_full(fd, &mut more) > 0) {
+        print_count(tried.run, b" vectors, and the next line is wrong: ");
+        print_count(count, b" vectors are due\n");
+        return;
+    }
+    print_count(count, b" vectors, ");
+    print_count(tried.agree, b" agree\n");
 }
 
 fn main() {
-    let agree = run();
-    io::print_decimal(STDOUT_FILENO, COUNT as u64);
-    io::write_all(STDOUT_FILENO, b" vectors, ");
-    io::print_decimal(STDOUT_FILENO, agree);
-    io::write_all(STDOUT_FILENO, b" agree\n");
+    let path = b"vectors";
+    let fd = os::open_read(path);
+    if fd < 0 {
+        os::fail(path);
+        return;
+    }
+    match list::read_bits(fd, b'\n') {
+        BitsToken::Bits(count) => try_list(fd, count),
+        BitsToken::NotBits => {
+            io::write_all(
+                STDOUT_FILENO,
+                b"the first line is not the number of vectors\n",
+            );
+        }
+    }
+    libc::close(fd);
 }
