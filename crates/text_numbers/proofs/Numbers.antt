@@ -76,7 +76,8 @@ module _ (token : List ℕ) (n : ℕ) (run : n ≡ runEnd (inClass Digit) token 
       let l : length (drop (suc n) token) < 1 = simp length-drop (omega arith) in
       rw (← first-run, split h, lt-leb 1 (length (drop (suc n) token)) l, and-false, and-false)
 
-  pub unsigned-is : {e : ℕ} → n < length token → getD token n 0 ≡ 46 → e ≡ runEnd (inClass Digit) token (n + 1) → e ≡ length token → n + 1 < e → decimal (take n token) (take (length token - (n + 1)) (drop (n + 1) token)) ≡ unsigned token
+  pub unsigned-is : {e : ℕ} → n < length token → getD token n 0 ≡ 46 → e ≡ runEnd (inClass Digit) token (n + 1) → e ≡ length token → n + 1 < e
+      → decimal (take n token) (take (length token - (n + 1)) (drop (n + 1) token)) ≡ unsigned token
   unfolding unsigned afterWhole
   unsigned-is {e} h p r q k =
       let a = all-from isDigit token (n + 1) e (r ∙ digits-run token (n + 1)) (omega arith) q in
