@@ -1,0 +1,35 @@
+-- Numbers put into a list: its length, and more behind them.
+use mathlib.Core.Path.{_≡_, sym, ap}
+use mathlib.Core.List.{List, _++_, append-assoc}
+use Prim.Native.Nat.{ℕ, _+_, _≤_}
+use native.Mathlib.Omega.{arith}
+use lib.ListN.{length, take, drop, length-append, length-take, length-drop}
+use lib.Seq.{drop-drop, take-at, drop-at}
+use lib.Ieee.{Float}
+use Rattle.lists.specs.Lists.{spliced}
+
+pub spliced-length : (output : List Float) (to : ℕ) (ys : List Float) → to + length ys ≤ length output → length (spliced output to ys) ≡ length output
+unfolding spliced
+spliced-length output to ys h = simp (length-append, length-take, length-drop) (omega arith)
+
+-- more behind what was put
+pub spliced-more : (output : List Float) (to : ℕ) (ys zs : List Float) → to + length ys + length zs ≤ length output
+    → spliced (spliced output to ys) (to + length ys) zs ≡ spliced output to (ys ++ zs)
+unfolding spliced
+spliced-more output to ys zs h =
+    let front = take to output ++ ys in
+    let back = drop (to + length ys) output in
+    let l : length front ≡ to + length ys = simp (length-append, length-take) (omega arith) in
+    let e : to + length ys + length zs ≡ to + (length ys + length zs) = omega arith in
+    let a : take to output ++ (ys ++ back) ≡ front ++ back = sym (append-assoc (take to output) ys back) in
+    rw (
+      a,
+      take-at front back (to + length ys) l,
+      ← drop-drop (length zs) (to + length ys) (front ++ back),
+      drop-at front back (to + length ys) l,
+      length-append,
+      append-assoc,
+      drop-drop,
+      append-assoc,
+    )
+    (ap (λ (z : ℕ). take to output ++ (ys ++ (zs ++ drop z output))) e)
