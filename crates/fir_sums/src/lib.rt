@@ -5,7 +5,8 @@ ghost use Prim.Native.Nat.{_+_, _≤_, _<_};
 ghost use lib.Dec.{leb};
 ghost use lib.ListN.{length};
 ghost use lib.Ieee.{binary64};
-ghost use Rattle.fir_theory.specs.Convolution.{sumAt, sumsFrom, spliced, scaled, convolvable, convolved};
+ghost use Rattle.lists.specs.Lists.{spliced};
+ghost use Rattle.fir_theory.specs.Convolution.{sumAt, sumsFrom, scaled, convolvable, convolved};
 
 // t × x[k + j] is added to sum j.
 fn add_scaled(sums: &mut [f64], t: f64, x: &[f64], k: usize)

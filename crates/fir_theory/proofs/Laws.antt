@@ -26,23 +26,19 @@ use Rattle.fir_theory.specs.Fir.{TapsRecord, ReadyMade, pushed, next, he
 
 -- ---- the loop that pushes among the first n: i places are done, and carried is what goes next
 abbrev pub Pushing : ℕ → List Float → Float → List Float → Float → ℕ → Type 0
-Pushing n s₀ x s carried i = Overwriting s₀ 0 (take n (x ∷ s₀)) s i × (carried ≡ getD (x ∷ s₀) i nan)
+Pushing n s₀ x s carried i = Overwriting s₀ 0 (take n (x ∷ s₀)) n s i × (carried ≡ getD (x ∷ s₀) i nan)
 
-module _ (n : ℕ) (s₀ : List Float) (x : Float) (room : n ≤ length s₀) where
-  all-new : length (take n (x ∷ s₀)) ≡ n
-  all-new = length-take-le n (x ∷ s₀) (omega arith)
-
-  pub push-start : Pushing n s₀ x s₀ x 0
-  push-start = (overwrite-start 0 _ (omega (arith, all-new)), refl)
+module _ (n : ℕ) (s₀ : List Float) (x : Float) where
+  pub push-start : n ≤ length s₀ → Pushing n s₀ x s₀ x 0
+  push-start h = (overwrite-start 0 (length-take-le n (x ∷ s₀) (omega arith)) (omega arith), refl)
 
   pub push-turn : {s : List Float} {carried : Float} (i : ℕ) → i < n → Pushing n s₀ x s carried i → Pushing n s₀ x (set s i carried) (getD s i nan) (i + 1)
   push-turn i h p =
-      let k : i < length (take n (x ∷ s₀)) = omega (arith, all-new) in
-      (overwrite-turn i i nan (omega arith) k (p .1 ∙ sym (getD-take n (x ∷ s₀) i nan h)) (p .0), rw add-one (overwrite-ahead i i nan (omega arith) k (p .0)))
+      (overwrite-turn i i nan (omega arith) h (p .1 ∙ sym (getD-take n (x ∷ s₀) i nan h)) (p .0), rw add-one (overwrite-ahead i i nan (omega arith) h (p .0)))
 
   pub push-done : {s : List Float} {carried : Float} (i : ℕ) → n ≤ i → Pushing n s₀ x s carried i → s ≡ pushed n x s₀
   unfolding pushed
-  push-done i h p = overwrite-front i (omega (arith, all-new)) (p .0) ∙ rw all-new
+  push-done i h p = overwrite-front i h (p .0)
 
 -- the newest m of the places after a push
 pub take-pushed : (m n : ℕ) (x : Float) (xs : List Float) → m ≤ n → n ≤ length xs → take m (pushed n x xs) ≡ take m (x ∷ xs)
@@ -217,7 +213,7 @@ module _ (capacity : ℕ) (ts : List Float) where
   unfolding fromCoeffs orderRefused
   made-many h k e = rw (ne-eqb (length ts) 0 (λ z. omega arith), lt-ltb capacity (length ts) k, e)
 
-  pub made : {l s : List Float} (i : ℕ) → 1 ≤ length ts → length ts ≤ capacity → i ≡ length ts → s ≡ zeros capacity → Overwriting (zeros capacity) 0 ts l i
+  pub made : {l s : List Float} (i : ℕ) → 1 ≤ length ts → length ts ≤ capacity → i ≡ length ts → s ≡ zeros capacity → Overwriting (zeros capacity) 0 ts (length ts) l i
       → _≡_ {A = Made} (record { refusal = Accepted; filter = record { taps = l; samples = s; length = length ts; held = 0; window = ReadyMade } })
       (fromCoeffs capacity ts)
   unfolding fromCoeffs orderRefused holding

@@ -12,9 +12,9 @@ use lib.Ieee.{Float}
 use Rattle.lists.specs.Copies.{copied}
 
 -- as many as there are and have room, in front
-pub copied-all : (ts l : List Float) → take (length l) ts ++ drop (length (take (length l) ts)) l ≡ copied ts l
+pub copied-all : (ts l : List Float) {n : ℕ} → length (take (length l) ts) ≡ n → take (length l) ts ++ drop n l ≡ copied ts l
 unfolding copied
-copied-all ts l = ap (λ (t : List Float). take (length l) ts ++ t) (go (ltb (length ts) (length l)) refl)
+copied-all ts l k = rw (← k) (ap (λ (t : List Float). take (length l) ts ++ t) (go (ltb (length ts) (length l)) refl))
   where
     go : (b : Bool) → ltb (length ts) (length l) ≡ b → drop (length (take (length l) ts)) l ≡ drop (length ts) l
     go true e = rw (take-all (length l) ts (omega (arith, ltb-true (length ts) (length l) e)))

@@ -3,7 +3,7 @@ use Prim.Native.Nat.{_+_}
 use mathlib.Core.Path.{sym}
 use native.Mathlib.Omega.{arith}
 use borrow.Author.Tests.{lt-leb}
-use Rattle.fir_theory.proofs.Sums.{room}
+use Rattle.lists.proofs.Tests.{room}
 use Rattle.fir_sums.proofs.within.Statement.{statement}
 use Rattle.fir_sums.proofs.within.Tie as tie
 
