@@ -31,8 +31,7 @@ loop-again c = let l = c .before .before .before in
 
 returns : tie.Need-returns Inv-loop μ-loop
 returns c = let l = c .before in
-    let a = l .before .args in
-    (
+    let a = l .before .args in (
       push-done _ _ _ _ (omega arith) (l .loop .inv .0),
       rw (take-pushed (a .n) (a .n) (a .x) (a .samples .now) (omega arith) (omega arith))
           (sum-done _ _ _ _ (a .n) (l .loop .i) (omega arith) (l .loop .inv .1)),
