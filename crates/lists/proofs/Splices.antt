@@ -1,16 +1,21 @@
 -- Numbers put into a list: its length, and more behind them.
-use mathlib.Core.Path.{_≡_, sym, ap}
+use mathlib.Core.Path.{_≡_, sym, ap, _∙_}
 use mathlib.Core.List.{List, _++_, append-assoc}
 use Prim.Native.Nat.{ℕ, _+_, _≤_}
 use native.Mathlib.Omega.{arith}
 use lib.ListN.{length, take, drop, length-append, length-take, length-drop}
-use lib.Seq.{drop-drop, take-at, drop-at}
+use lib.Seq.{drop-drop, take-at, drop-at, sets, sets-eq}
 use lib.Ieee.{Float}
 use Rattle.lists.specs.Lists.{spliced}
 
 pub spliced-length : (output : List Float) (to : ℕ) (ys : List Float) → to + length ys ≤ length output → length (spliced output to ys) ≡ length output
 unfolding spliced
 spliced-length output to ys h = simp (length-append, length-take, length-drop) (omega arith)
+
+-- stores one after the other
+pub sets-spliced : (vs l : List Float) (k : ℕ) → k + length vs ≤ length l → sets l k vs ≡ spliced l k vs
+unfolding spliced
+sets-spliced vs l k h = sets-eq vs l k h ∙ append-assoc (take k l) vs (drop (k + length vs) l)
 
 -- more behind what was put
 pub spliced-more : (output : List Float) (to : ℕ) (ys zs : List Float) → to + length ys + length zs ≤ length output
