@@ -19,7 +19,7 @@ use Rattle.fir_theory.specs.Lent.{fits}
 use Rattle.fir_theory.proofs.Laws as Taps
 use Rattle.fir_theory.proofs.Laws.{fits-next, fits-lengths, lengths-fit}
 use Rattle.c_layout.specs.Layout.{cascadeAt, cascadeNumbers, sectionsNumbers, cascadeCounts, cascadePlaces, cascadeFits}
-use Rattle.c_layout.proofs.Places.{both}
+use Rattle.lists.proofs.Tests.{both}
 use Rattle.c_calls.specs.Kinds.{tapsAt, tapsCounts, tapsFit, cascadeKind, firKind}
 use Rattle.c_calls.proofs.Lists.{ReadBack}
 

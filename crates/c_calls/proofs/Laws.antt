@@ -15,11 +15,12 @@ use Rattle.fir_theory.specs.Fir.{TapsRecord, fir}
 use Rattle.limits.specs.Limits.{maxTaps}
 use Rattle.fir_theory.specs.Lent.{lentTaps, fits}
 use Rattle.cascade_theory.specs.Cascade.{CascadeRecord, blankCascade}
-use Rattle.c_layout.proofs.Laws.{fits-places, cond-true}
+use Rattle.lists.proofs.Tests.{both, cond-true}
+use Rattle.c_layout.proofs.Laws.{fits-places}
 use Rattle.c_layout.specs.Layout.{flag, cascadeAt, cascadePlaces, cascadeFits, cascadeNumbers, cascadeCounts}
 use Rattle.c_calls.specs.Kinds.{Kind, tapsCounts, tapsAt, tapsFit, firKind}
 use Rattle.c_calls.specs.Calls.{Call, Stored, recordOf, fitting, unchanged, stepCall, blockCall, resetCall, notStored}
-use Rattle.c_layout.proofs.Places.{both, set-middle}
+use Rattle.c_layout.proofs.Places.{set-middle}
 
 -- ---- a cascade read from slices that fit, and written into slices that have its places
 module _ (ns : List Float) (cs : List ℕ) where

@@ -12,7 +12,7 @@ use Rattle.runs.specs.Refusals.{Accepted, BadCall}
 use Rattle.fir_theory.specs.Fir.{Made}
 use Rattle.design_cascade.specs.Design.{DesignRecord}
 use Rattle.c_layout.specs.Layout.{cascadePlaces, cascadeNumbers, cascadeCounts}
-use Rattle.c_layout.proofs.Places.{both}
+use Rattle.lists.proofs.Tests.{both}
 use Rattle.c_calls.specs.Kinds.{tapsCounts}
 use Rattle.c_calls.specs.Calls.{Stored, notStored}
 use Rattle.c_designs.specs.Designs.{TapsStored, designCall, tapsUnchanged, tapsPlaces, madeCall}

@@ -1,6 +1,6 @@
 -- The tests of lengths and flags.
 use mathlib.Core.Path.{_≡_}
-use mathlib.Core.Bool.{Bool, true, false, cond}
+use mathlib.Core.Bool.{true, false}
 use mathlib.Core.List.{List}
 use Prim.Native.Nat.{ℕ}
 use lib.Dec.{eqb, leb}
@@ -8,7 +8,7 @@ use lib.ListN.{length, getD}
 use lib.Ieee.{Float}
 use borrow.Author.Tests.{eqb-true}
 use Rattle.c_layout.specs.Layout.{cascadePlaces, cascadeFits}
-use Rattle.c_layout.proofs.Places.{both}
+use Rattle.lists.proofs.Tests.{both}
 
 pub places-lengths : (ns : List Float) (cs : List ℕ) → cascadePlaces ns cs ≡ true → (length ns ≡ 32) × (length cs ≡ 3)
 unfolding cascadePlaces
@@ -30,10 +30,3 @@ fits-last ns cs h k = rw (h, k)
 pub fits-places : (ns : List Float) (cs : List ℕ) → cascadeFits ns cs ≡ true → cascadePlaces ns cs ≡ true
 unfolding cascadeFits
 fits-places ns cs h = both (cascadePlaces ns cs) _ h .0
-
--- of two outcomes by a test
-pub cond-true : {A : Type 0} (b : Bool) (x y : A) → b ≡ true → cond b x y ≡ x
-cond-true b x y h = rw h
-
-pub cond-false : {A : Type 0} (b : Bool) (x y : A) → b ≡ false → cond b x y ≡ y
-cond-false b x y h = rw h

@@ -1,38 +1,26 @@
 -- Writing every place of a short list, and the tests of lengths.
-use mathlib.Core.Path.{_≡_, refl, sym, ap, _∙_}
-use mathlib.Core.Bool.{Bool, true, false, _&&_, true≢false}
+use mathlib.Core.Path.{_≡_, refl, ap, _∙_}
 use mathlib.Core.List.{List, [], _∷_, _++_, map, append-nil}
 use Prim.Native.Nat.{ℕ, _+_, _≤_}
-use native.Mathlib.Nat.{add-zero}
+use native.Mathlib.Numerals.{towards-suc}
 use native.Mathlib.Omega.{arith}
 use lib.ListN.{length, getD, set, drop, drop-of-length-le, length-append, length-drop}
 use lib.Seq.{take-at}
 use lib.Ieee.{Float}
-use Rattle.fir_theory.specs.Convolution.{spliced}
-use Rattle.fir_theory.proofs.Sums.{put-start, put-turn, put-done, spliced-more}
+use Rattle.lists.specs.Lists.{spliced}
+use Rattle.lists.proofs.Overwriting.{set-all}
+use Rattle.lists.proofs.Splices.{spliced-more, sets-spliced}
 use Rattle.sections.specs.View.{sectionView}
 use Rattle.sections.specs.declared.section.Section.{Section}
 use Rattle.c_layout.specs.Layout.{sectionNumbers, sectionsNumbers}
 
-pub both : (a b : Bool) → (a && b) ≡ true → (a ≡ true) × (b ≡ true)
-both true b h = (refl, h)
-both false b h = absurd (true≢false (sym h))
-
--- ---- one place
+-- ---- one place, three, and the middle one of three
 pub set-one : {A : Type 0} (l : List A) (a : A) → length l ≡ 1 → set l 0 a ≡ a ∷ []
-set-one [] a h = absurd (omega arith)
-set-one (x ∷ []) a h = refl
-set-one (x ∷ y ∷ l) a h = absurd (omega arith)
+set-one l a h = set-all (a ∷ []) l h
 
--- ---- three
 pub set-three : (l : List ℕ) (a b c : ℕ) → length l ≡ 3 → set (set (set l 0 a) 1 b) 2 c ≡ a ∷ b ∷ c ∷ []
-set-three [] a b c h = absurd (omega arith)
-set-three (x ∷ []) a b c h = absurd (omega arith)
-set-three (x ∷ y ∷ []) a b c h = absurd (omega arith)
-set-three (x ∷ y ∷ z ∷ []) a b c h = refl
-set-three (x ∷ y ∷ z ∷ w ∷ l) a b c h = absurd (omega arith)
+set-three l a b c h = set-all (a ∷ b ∷ c ∷ []) l h
 
--- the middle one alone
 pub set-middle : (l : List ℕ) (b : ℕ) → length l ≡ 3 → set l 1 b ≡ getD l 0 0 ∷ b ∷ getD l 2 0 ∷ []
 set-middle [] b h = absurd (omega arith)
 set-middle (x ∷ []) b h = absurd (omega arith)
@@ -43,24 +31,11 @@ set-middle (x ∷ y ∷ z ∷ w ∷ l) b h = absurd (omega arith)
 -- ---- seven and four, from a place on
 pub set-seven : (l : List Float) (k : ℕ) (a b c d e f g : Float) → k + 7 ≤ length l
     → set (set (set (set (set (set (set l k a) (k + 1) b) (k + 2) c) (k + 3) d) (k + 4) e) (k + 5) f) (k + 6) g ≡ spliced l k (a ∷ b ∷ c ∷ d ∷ e ∷ f ∷ g ∷ [])
-set-seven l k a b c d e f g h =
-    let t₁ = put-turn k 0 (omega arith) h (put-start l k (a ∷ b ∷ c ∷ d ∷ e ∷ f ∷ g ∷ [])) in
-    let t₂ = put-turn k 1 (omega arith) h t₁ in
-    let t₃ = put-turn k 2 (omega arith) h t₂ in
-    let t₄ = put-turn k 3 (omega arith) h t₃ in
-    let t₅ = put-turn k 4 (omega arith) h t₄ in
-    let t₆ = put-turn k 5 (omega arith) h t₅ in
-    let t₇ = put-turn k 6 (omega arith) h t₆ in
-    rw (add-zero k) at (put-done k 7 (omega arith) t₇)
+set-seven l k a b c d e f g h = simp towards-suc (sets-spliced (a ∷ b ∷ c ∷ d ∷ e ∷ f ∷ g ∷ []) l k h)
 
 pub set-four : (l : List Float) (k : ℕ) (a b c d : Float) → k + 4 ≤ length l → set (set (set (set l k a) (k + 1) b) (k + 2) c) (k + 3) d
     ≡ spliced l k (a ∷ b ∷ c ∷ d ∷ [])
-set-four l k a b c d h =
-    let t₁ = put-turn k 0 (omega arith) h (put-start l k (a ∷ b ∷ c ∷ d ∷ [])) in
-    let t₂ = put-turn k 1 (omega arith) h t₁ in
-    let t₃ = put-turn k 2 (omega arith) h t₂ in
-    let t₄ = put-turn k 3 (omega arith) h t₃ in
-    rw (add-zero k) at (put-done k 4 (omega arith) t₄)
+set-four l k a b c d h = simp towards-suc (sets-spliced (a ∷ b ∷ c ∷ d ∷ []) l k h)
 
 -- ---- four sections and a first-order part, one behind the other, fill thirty-two places
 more : (l : List Float) (ys zs : List Float) (k : ℕ) → k ≡ length ys → length ys + length zs ≤ length l → spliced (spliced l 0 ys) k zs ≡ spliced l 0 (ys ++ zs)

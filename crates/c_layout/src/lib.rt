@@ -5,7 +5,7 @@ ghost use mathlib.Core.List.{[], _∷_, _++_, map};
 ghost use Prim.Native.Nat.{_≤_};
 ghost use lib.Dec.{eqb};
 ghost use lib.ListN.{length, drop};
-ghost use Rattle.fir_theory.specs.Convolution.{spliced};
+ghost use Rattle.lists.specs.Lists.{spliced};
 ghost use Rattle.sections.specs.View.{sectionView, firstView};
 ghost use Rattle.cascade_theory.specs.Cascade.{blankCascade};
 ghost use Rattle.cascade.specs.View.{cascadeView};

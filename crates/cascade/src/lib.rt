@@ -249,7 +249,7 @@ impl Cascade {
         if input.len() < 3 {
             return false;
         }
-        !pipeline::not_all_finite(input)
+        !runs::not_all_finite(input, input.len())
     }
 
     // The same block with each section one sample behind the section before it.

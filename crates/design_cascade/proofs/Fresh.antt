@@ -15,7 +15,7 @@ use Rattle.scalar.specs.Operators.{_⊖_, _⊗_}
 use Rattle.limits.specs.Zero.{plusZero}
 use Rattle.scalar.specs.Constants.{half}
 use Rattle.design_checks.specs.Checks.{validateParams, validateChebyshev, validateBand}
-use Rattle.design_checks.specs.Lists.{upTo}
+use Rattle.lists.specs.Lists.{upTo}
 use Rattle.design_checks.proofs.Laws.{good-params, good-chebyshev, good-band}
 use Rattle.design_cascade.specs.Design.{refusedDesign, accepted, unlessRefused, padded}
 use Rattle.design_poles.specs.Butterworth.{lpBiquad, hpBiquad, lpFirst, hpFirst}

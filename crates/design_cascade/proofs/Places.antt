@@ -7,9 +7,8 @@ use native.Mathlib.Omega.{arith}
 use lib.ListN.{length, set, length-append}
 use lib.Ieee.{Float}
 use Rattle.cascade_theory.specs.Section.{SectionRecord, blankSection}
-use Rattle.cascade_theory.proofs.Loops.{map-set}
-use Rattle.design_checks.specs.Lists.{upTo}
-use Rattle.design_checks.proofs.Lists.{upTo-length}
+use Rattle.lists.specs.Lists.{upTo}
+use Rattle.lists.proofs.Places.{upTo-length, map-set}
 use Rattle.design_cascade.specs.Design.{padded}
 use Rattle.design_cascade.specs.BandPass.{bpUpTo, bpPairOf}
 

@@ -9,7 +9,7 @@ use Rattle.scalar.specs.Constants.{one}
 use Rattle.cascade_theory.specs.Section.{SectionRecord}
 use Rattle.cascade_theory.specs.FirstOrder.{FirstOrderRecord, blankFirst}
 use Rattle.cascade_theory.specs.Cascade.{CascadeRecord}
-use Rattle.design_checks.specs.Lists.{upTo}
+use Rattle.lists.specs.Lists.{upTo}
 use Rattle.design_cascade.specs.Design.{padded}
 use Rattle.design_poles.specs.Butterworth.{lpFirst, hpFirst}
 use Rattle.design_poles.specs.Chebyshev.{chebFirst}

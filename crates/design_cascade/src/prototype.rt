@@ -3,7 +3,7 @@ ghost use mathlib.Core.Path.{_≡_};
 ghost use mathlib.Core.List.{map};
 ghost use Prim.Native.Nat.{_<_, _≤_, _/_};
 ghost use Rattle.sections.specs.View.{sectionView, firstView};
-ghost use Rattle.design_checks.specs.Lists.{upTo};
+ghost use Rattle.lists.specs.Lists.{upTo};
 ghost use Rattle.design_cascade.specs.Design.{padded, accepted};
 ghost use Rattle.design_cascade.specs.Prototype.{pairOf, realPart, firstOf, prototypeCascade};
 ghost use Rattle.design_cascade.specs.View.{designView};

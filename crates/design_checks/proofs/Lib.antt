@@ -1,3 +1,2 @@
--- The proofs that belong to no one function. Laws: what the checks leave, and whole numbers. Lists: a list by its places.
+-- The proofs that belong to no one function. Laws: what the checks leave, and whole numbers.
 pub mod Laws
-pub mod Lists

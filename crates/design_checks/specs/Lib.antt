@@ -1,3 +1,2 @@
--- What all designs share. Checks: 01's table of refusals, and its order of checks. Lists: a list by its places.
+-- What all designs share. Checks: 01's table of refusals, and its order of checks.
 pub mod Checks
-pub mod Lists

@@ -1,20 +1,18 @@
--- The loops over the taps of a design, and what they leave.
+-- The taps of a design, and what it returns.
 use mathlib.Core.Path.{_≡_, refl, sym, ap, _∙_}
 use mathlib.Core.Bool.{Bool, true, false, cond}
-use mathlib.Core.List.{List, [], _∷_, _++_, map, append-assoc}
-use Prim.Native.Nat.{ℕ, suc, _+_, _-_, _<_, _≤_}
-use native.Mathlib.Numerals.{add-one}
-use native.Mathlib.Omega.{arith}
-use lib.ListN.{length, take, drop, getD, set, replicate, length-take, length-map, drop-of-length-le}
-use lib.Seq.{drop-cons, take-suc, set-at, getD-at, getD-take, take-at, drop-at, length-take-le}
-use lib.Ieee.{Float, nan, lt}
-use Rattle.scalar.specs.Operators.{_⊕_, _⊘_}
+use mathlib.Core.List.{List, _++_, map}
+use Prim.Native.Nat.{ℕ, _-_}
+use lib.ListN.{length, take, drop, replicate, length-map}
+use lib.Seq.{take-at, drop-at}
+use lib.Ieee.{Float, lt}
+use Rattle.scalar.specs.Operators.{_⊘_}
 use Rattle.limits.specs.Zero.{plusZero}
 use Rattle.scalar.specs.Constants.{epsilon}
 use Rattle.scalar.specs.Sign.{absOf}
 use Rattle.design_checks.specs.Checks.{validateFir}
-use Rattle.design_checks.specs.Lists.{upTo}
-use Rattle.design_checks.proofs.Lists.{upTo-length}
+use Rattle.lists.specs.Lists.{upTo}
+use Rattle.lists.proofs.Places.{upTo-length}
 use Rattle.design_fir.specs.Fir.{codeOf, tapOf, totalFrom, normalisedBy, firTaps, firLp}
 use Rattle.design_fir.specs.declared.WindowType.{WindowType}
 use borrow.Author.Tests.{eq-eqb, ne-eqb}
@@ -22,62 +20,6 @@ use lib.Ieee.{ofBits}
 use Rattle.runs.specs.Refusals.{Accepted}
 use Rattle.fir_theory.specs.Fir.{TapsRecord, Made, zeros, blankTaps, holding}
 use Rattle.limits.specs.Limits.{maxTaps}
-
--- ---- the loop that makes the taps: the first i are in place
-abbrev pub Making : (ℕ → Float) → ℕ → List Float → ℕ → Type 0
-Making g most l i = l ≡ upTo g i ++ replicate (most - i) plusZero
-
-pub make-turn : (g : ℕ → Float) (most : ℕ) (l : List Float) (i : ℕ) {t : Float} → i < most → t ≡ g i → Making g most l i → Making g most (set l i t) (i + 1)
-make-turn g most l i {t} h e p =
-    ap (λ (m : List Float). set m i t) (p ∙ ap (λ (k : ℕ). upTo g i ++ replicate k plusZero) one-less)
-    ∙ set-at (upTo g i) plusZero (replicate (most - suc i) plusZero) t i (upTo-length g i)
-    ∙ ap (λ (x : Float). upTo g i ++ x ∷ replicate (most - suc i) plusZero) e
-    ∙ sym (append-assoc (upTo g i) (g i ∷ []) (replicate (most - suc i) plusZero))
-    ∙ ap (λ (xs : List Float). xs ++ replicate (most - suc i) plusZero) (more i)
-    ∙ ap (λ (k : ℕ). upTo g k ++ replicate (most - k) plusZero) (sym (add-one i))
-  where
-    one-less : most - i ≡ suc (most - suc i)
-    one-less = omega arith
-
-    more : (m : ℕ) → upTo g m ++ g m ∷ [] ≡ upTo g (suc m)
-    more m = unfold upTo in refl
-
--- ---- the loop that sums: what is left to add
-abbrev pub Totalling : List Float → Float → ℕ → Type 0
-Totalling ts y i = totalFrom y (drop i ts) ≡ totalFrom plusZero ts
-
-pub total-turn : (l : List Float) (y : Float) (n i : ℕ) → i < n → n ≤ length l → Totalling (take n l) y i → Totalling (take n l) (y ⊕ getD l i nan) (i + 1)
-unfolding totalFrom
-total-turn l y n i h k p =
-    let m : i < length (take n l) = simp length-take (omega arith) in
-    let d = drop-cons (take n l) i nan m in
-    rw (add-one, ← getD-take n l i nan h) (rw d at p)
-
-pub total-done : (l : List Float) (y : Float) (n i : ℕ) → n ≤ i → Totalling (take n l) y i → y ≡ totalFrom plusZero (take n l)
-unfolding totalFrom
-total-done l y n i k p = let e = drop-of-length-le (take n l) {i = i} (simp length-take (omega arith)) in
-    (rw e at p)
-
--- ---- the loop that divides: the first i are divided
-abbrev pub Dividing : (Float → Float) → List Float → List Float → ℕ → Type 0
-Dividing h l₀ l i = l ≡ map h (take i l₀) ++ drop i l₀
-
-module _ (h : Float → Float) (l₀ : List Float) where
-  map-last : (xs : List Float) (x : Float) (ys : List Float) → map h (xs ++ x ∷ []) ++ ys ≡ map h xs ++ h x ∷ ys
-  map-last [] x ys = refl
-  map-last (z ∷ xs) x ys = ap (λ (l : List Float). h z ∷ l) (map-last xs x ys)
-
-  pub divide-turn : (l : List Float) (i : ℕ) → i < length l₀ → Dividing h l₀ l i → Dividing h l₀ (set l i (h (getD l i nan))) (i + 1)
-  divide-turn l i k p =
-      let n : length (map h (take i l₀)) ≡ i = length-map (take i l₀) h ∙ length-take-le i l₀ (omega arith) in
-      let here : l ≡ map h (take i l₀) ++ getD l₀ i nan ∷ drop (suc i) l₀ = p ∙ ap (λ (xs : List Float). map h (take i l₀) ++ xs) (drop-cons l₀ i nan k) in
-      let read : getD l i nan ≡ getD l₀ i nan = ap (λ (m : List Float). getD m i nan) here ∙ getD-at (map h (take i l₀)) _ (drop (suc i) l₀) nan i n in
-      ap (λ (x : Float). set l i (h x)) read
-      ∙ ap (λ (m : List Float). set m i (h (getD l₀ i nan))) here
-      ∙ set-at (map h (take i l₀)) _ (drop (suc i) l₀) (h (getD l₀ i nan)) i n
-      ∙ sym (map-last (take i l₀) (getD l₀ i nan) (drop (suc i) l₀))
-      ∙ ap (λ (xs : List Float). map h xs ++ drop (suc i) l₀) (sym (take-suc l₀ i nan k))
-      ∙ ap (λ (j : ℕ). map h (take j l₀) ++ drop j l₀) (sym (add-one i))
 
 -- ---- the taps of a design
 pub normalised-length : (s : Float) (ts : List Float) → length (normalisedBy s ts) ≡ length ts

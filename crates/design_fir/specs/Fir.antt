@@ -13,7 +13,7 @@ use Rattle.runs.specs.Refusals.{Accepted}
 use Rattle.fir_theory.specs.Fir.{Rectangular, Hamming, Hanning, Blackman, Made, blankTaps, holding}
 use Rattle.limits.specs.Limits.{maxTaps}
 use Rattle.design_checks.specs.Checks.{validateFir}
-use Rattle.design_checks.specs.Lists.{upTo}
+use Rattle.lists.specs.Lists.{upTo}
 use Rattle.design_fir.specs.declared.WindowType.{WindowType}
 use Rattle.design_fir.specs.declared.WindowType.the-variants as window
 

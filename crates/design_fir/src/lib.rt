@@ -7,7 +7,7 @@ ghost use Rattle.scalar.specs.Operators.{_⊘_};
 ghost use Rattle.limits.specs.Zero.{plusZero};
 ghost use Rattle.limits.specs.Limits.{maxTaps};
 ghost use Rattle.fir.specs.View.{madeView};
-ghost use Rattle.design_checks.specs.Lists.{upTo};
+ghost use Rattle.lists.specs.Lists.{upTo};
 ghost use Rattle.design_fir.specs.Fir.{codeOf, weightOf, sincOf, tapOf, totalFrom, normalisedBy, firLp};
 use design_checks::validate_fir;
 use fir::FirDesignResult;

@@ -9,7 +9,7 @@ ghost use lib.ListN.{length, take, drop};
 ghost use lib.Ieee.{binary64};
 ghost use Rattle.runs.specs.Runs.{block};
 ghost use Rattle.runs.specs.Lent.{lentBlock};
-ghost use Rattle.fir_theory.specs.Convolution.{spliced};
+ghost use Rattle.lists.specs.Lists.{spliced};
 ghost use Rattle.fir_theory.specs.Fir.{checkTaps, fir};
 ghost use Rattle.limits.specs.Limits.{maxTaps};
 ghost use Rattle.fir_theory.specs.Lent.{lentTaps, fits};

@@ -6,7 +6,6 @@ ghost use Prim.Native.Nat.{_+_, _≤_, _<_, min};
 ghost use lib.ListN.{length, take, replicate};
 ghost use lib.Ieee.{binary64};
 ghost use Rattle.limits.specs.Zero.{plusZero};
-ghost use Rattle.runs.specs.Runs.{notAllFinite};
 ghost use Rattle.runs.specs.Lent.{lentRefusal, lentStep, lentReset};
 ghost use Rattle.runs.specs.View.{answerView};
 ghost use Rattle.fir_theory.specs.Fir.{pushed, sum, clouding, checkTaps, fir};
@@ -98,21 +97,6 @@ fn take_in(taps: &[f64], samples: &mut [f64], n: usize, held: usize, x: f64) -> 
     push_and_convolve(taps, samples, n, x)
 }
 
-// Whether one of the first n samples is not finite.
-fn not_all_finite(samples: &[f64], n: usize) -> bool
-    requires { ⌜ n ≤ length (now samples) ⌝ }
-    ensures { λ r. ⌜ r ≡ notAllFinite (take n (now (samples .entry))) ⌝ }
-{
-    let mut i: usize = 0;
-    while i < n {
-        if !scalar::is_finite(samples[i]) {
-            return true;
-        }
-        i += 1;
-    }
-    false
-}
-
 // The mark, 01 "Run answer": whether the answer y from these taps and the first n samples is Clouded. A sum that is finite
 // has finite samples alone.
 fn clouds(taps: &[f64], samples: &[f64], n: usize, y: f64) -> bool
@@ -122,7 +106,7 @@ fn clouds(taps: &[f64], samples: &[f64], n: usize, y: f64) -> bool
     if scalar::is_finite(y) {
         return false;
     }
-    not_all_finite(samples, n)
+    runs::not_all_finite(samples, n)
 }
 
 // The number answered to x, its mark, and the held count after it.

@@ -2,10 +2,10 @@
 // regrouped.
 ghost use mathlib.Core.Path.{_≡_};
 ghost use Prim.Native.Nat.{_+_, _≤_, _<_};
-ghost use lib.Dec.{leb};
 ghost use lib.ListN.{length};
 ghost use lib.Ieee.{binary64};
-ghost use Rattle.fir_theory.specs.Convolution.{sumAt, sumsFrom, spliced, scaled, convolvable, convolved};
+ghost use Rattle.lists.specs.Lists.{spliced};
+ghost use Rattle.fir_theory.specs.Convolution.{sumAt, sumsFrom, scaled, convolvable, convolved};
 
 // t × x[k + j] is added to sum j.
 fn add_scaled(sums: &mut [f64], t: f64, x: &[f64], k: usize)
@@ -104,16 +104,6 @@ fn outputs(taps: &[f64], n: usize, x: &[f64], at: usize, output: &mut [f64], to:
     narrow(taps, n, x, at + j, output, to + j, m - j);
 }
 
-// Whether a run of m places from place `at` on lies within a length.
-fn within(at: usize, m: usize, length: usize) -> bool
-    ensures { λ r. ⌜ r ≡ leb (at + m) length ⌝ }
-{
-    if at > length {
-        return false;
-    }
-    m <= length - at
-}
-
 // The outputs of the first n taps at places at to at + m - 1 of x, put into the output from place `to` on, and true; or false
 // and the output as it was, where a place is missing or there are not n samples before place `at`.
 pub fn convolve(
@@ -134,10 +124,10 @@ pub fn convolve(
     if n > taps.len() {
         return false;
     }
-    if !within(at, m, x.len()) {
+    if !lists::within(at, m, x.len()) {
         return false;
     }
-    if !within(to, m, output.len()) {
+    if !lists::within(to, m, output.len()) {
         return false;
     }
     outputs(taps, n, x, at, output, to, m);

@@ -13,13 +13,12 @@ use lib.Ieee.{Float, nan, Format, add, mul}
 use lib.Ieee.Scale.{finite}
 use borrow.Author.Tests.{le-ltb, lt-ltb, ltb-true, ltb-false}
 use Rattle.limits.specs.Zero.{plusZero}
-use Rattle.runs.specs.Runs.{Answer, notAllFinite, marked, cloudedIn, written, placed, isClouded, answer, answers, after}
-use Rattle.runs.proofs.Laws.{answers-cons, after-cons}
+use Rattle.runs.specs.Runs.{Answer, notAllFinite, marked, cloudedIn, written, isClouded, answer, answers, after}
+use Rattle.runs.proofs.Laws.{clouded-marked, placed-marked, answers-cons, after-cons}
 use Rattle.fir_theory.specs.Convolution.{sumAt, sumsFrom}
 use Rattle.fir_theory.specs.Fir.{TapsRecord, pushed, next, heldOf, clouding, sum, value, mark, checkTaps, fir}
 use Rattle.fir_theory.specs.Blocks.{backFrom, finiteRun, ageAfter, cloudsFrom}
-use Rattle.fir_theory.proofs.Laws.{sizes, check-next, sum-none}
-use Rattle.fir_theory.proofs.Laws.{take-pushed, length-pushed}
+use Rattle.fir_theory.proofs.Laws.{sizes, check-next, sum-none, take-pushed, length-pushed}
 
 -- ---- a history, newest first, at place k of a list that stands oldest first
 abbrev pub Past : List Float → ℕ → List Float → ℕ → Type 0
@@ -141,11 +140,7 @@ unfolding written told values
 written-told f ts n L [] output h = refl
 written-told f ts n L (x ∷ xs) [] h = absurd (omega arith)
 written-told f ts n L (x ∷ xs) (y ∷ output) h =
-    ap₂ _∷_ (number (notAllFinite (take n (x ∷ L))) (sum f plusZero ts (take n (x ∷ L))) y) (written-told f ts n (x ∷ L) xs output (omega arith))
-  where
-    number : (b : Bool) (v old : Float) → placed (marked b v) old ≡ v
-    number true v old = refl
-    number false v old = refl
+    ap₂ _∷_ (placed-marked (notAllFinite (take n (x ∷ L))) (sum f plusZero ts (take n (x ∷ L))) y) (written-told f ts n (x ∷ L) xs output (omega arith))
 
 -- ---- the count
 suc-ltb : (a b : ℕ) → ltb a b ≡ ltb (suc a) (suc b)
@@ -180,17 +175,13 @@ capped-ltb a n = go (ltb a n) refl
     go true e = sym (lt-ltb (min a n) n (omega (arith, ltb-true a n e)))
     go false e = sym (le-ltb (min a n) n (omega (arith, ltb-false a n e)))
 
-is-clouded : (b : Bool) (v : Float) → isClouded (marked b v) ≡ b
-is-clouded true v = refl
-is-clouded false v = refl
-
 pub count-told : (f : Format) (ts : List Float) (n : ℕ) (L xs : List Float) → n ≤ length L → cloudedIn (told f ts n L xs)
     ≡ cloudsFrom n (min (finiteRun L) n) xs
 unfolding cloudedIn told cloudsFrom
 count-told f ts n L [] h = refl
 count-told f ts n L (x ∷ xs) h =
     let e : isClouded (marked (notAllFinite (take n (x ∷ L))) (sum f plusZero ts (take n (x ∷ L)))) ≡ ltb (ageAfter n (min (finiteRun L) n) x) n =
-    is-clouded (notAllFinite (take n (x ∷ L))) (sum f plusZero ts (take n (x ∷ L))) ∙ run-finite n (x ∷ L) (omega arith) ∙ capped-ltb (finiteRun (x ∷ L)) n
+    clouded-marked (notAllFinite (take n (x ∷ L))) (sum f plusZero ts (take n (x ∷ L))) ∙ run-finite n (x ∷ L) (omega arith) ∙ capped-ltb (finiteRun (x ∷ L)) n
     ∙ ap (λ (z : ℕ). ltb z n) (age-is n L x) in
     ap₂ (λ (b : Bool) (z : ℕ). cond b 1 0 + z) e (count-told f ts n (x ∷ L) xs (omega arith) ∙ ap (λ (z : ℕ). cloudsFrom n z xs) (age-is n L x))
 

@@ -1,53 +1,45 @@
 -- Loops over taps and samples, the check, and what the functions return.
-use mathlib.Core.Path.{_≡_, refl, ap₂, sym, _∙_}
-use mathlib.Core.Bool.{Bool, true, false, not, _&&_, _||_, cond, true≢false, false≢true, Bool·beq}
+use mathlib.Core.Path.{_≡_, refl, sym, _∙_}
+use mathlib.Core.Bool.{Bool, true, false, _&&_, cond, false≢true, Bool·beq}
 use mathlib.Core.List.{List, [], _∷_}
-use Prim.Native.Nat.{ℕ, zero, suc, _+_, _-_, _<_, _≤_, min}
+use Prim.Native.Nat.{ℕ, _+_, _<_, _≤_, min}
 use native.Mathlib.Numerals.{add-one}
-use native.Mathlib.Nat.{sub-zero, zero-sub, suc-sub-suc}
 use native.Mathlib.Omega.{arith}
 use lib.Dec.{leb, eqb}
-use lib.ListN.{length, take, drop, getD, set, length-take, length-set, getD-replicate, length-append, length-drop, length-replicate, drop-of-length-le}
-use lib.ListN.{replicate}
-use lib.Seq.{drop-cons, set-at, getD-at, length-take-le, getD-take, take-length, take-append-le, take-take}
+use lib.ListN.{length, take, drop, getD, set, length-take, length-append, length-drop, replicate}
+use lib.Seq.{drop-cons, length-take-le, getD-take, take-append-le, take-take}
 use lib.Ieee.{Float, nan, inf, fin, unlike, Format, add, mul}
 use lib.Ieee.Scale.{finite}
 use borrow.Author.Tests.{leb-true, le-leb, lt-ltb, le-ltb, eq-eqb, ne-eqb, eqb-true}
 use Rattle.runs.specs.Refusals.{InvalidOrder, Accepted, orderRefused}
 use Rattle.limits.specs.Zero.{plusZero}
-use Rattle.runs.specs.Runs.{notAllFinite, marked, answer, Step, Reset}
+use Rattle.runs.specs.Runs.{notAllFinite, marked, Step, Reset}
 use Rattle.runs.specs.Lent.{lentStep, lentReset}
-use Rattle.runs.proofs.Laws.{step-answered, reset-done}
+use Rattle.runs.proofs.Laws.{answer-is, step-answered, reset-done}
 use Rattle.runs.proofs.Lent.{lent-step, lent-reset}
-use Rattle.lists.proofs.Copies.{Copying, snoc-take, copy-turn, copy-done}
+use Rattle.lists.proofs.Overwriting.{Overwriting, overwrite-start, overwrite-turn, overwrite-ahead, overwrite-front}
+use Rattle.lists.proofs.Folding.{front-turn, front-done}
+use Rattle.lists.proofs.Places.{drop-replicate}
+use Rattle.lists.proofs.Tests.{both}
 use Rattle.fir_theory.specs.Lent.{lentTaps, fits}
 use Rattle.fir_theory.specs.Fir.{TapsRecord, ReadyMade, pushed, next, heldOf, clouding, sum, value, mark, checkTaps, zeros, blankTaps, clearedTaps, fir}
 use Rattle.fir_theory.specs.Fir.{holding, Made, fromCoeffs}
 
--- ---- the loop that pushes: i places are done, and carried is what goes next
-abbrev pub Pushing : List Float → Float → List Float → Float → ℕ → Type 0
-Pushing s₀ x s carried i = (s ≡ pushed i x s₀) × (carried ≡ getD (x ∷ s₀) i nan) × (length s ≡ length s₀)
+-- ---- the loop that pushes among the first n: i places are done, and carried is what goes next
+abbrev pub Pushing : ℕ → List Float → Float → List Float → Float → ℕ → Type 0
+Pushing n s₀ x s carried i = Overwriting s₀ 0 (take n (x ∷ s₀)) n s i × (carried ≡ getD (x ∷ s₀) i nan)
 
-pub push-start : (s : List Float) (x : Float) → Pushing s x s x 0
-unfolding pushed
-push-start s x = (refl, refl, refl)
+module _ (n : ℕ) (s₀ : List Float) (x : Float) where
+  pub push-start : n ≤ length s₀ → Pushing n s₀ x s₀ x 0
+  push-start h = (overwrite-start 0 (length-take-le n (x ∷ s₀) (omega arith)) (omega arith), refl)
 
-push-more : (xs : List Float) (x : Float) (i : ℕ) → i < length xs → set (pushed i x xs) i (getD (x ∷ xs) i nan) ≡ pushed (suc i) x xs
-unfolding pushed
-push-more xs x i h =
-    let l : length (take i (x ∷ xs)) ≡ i = length-take-le i (x ∷ xs) (omega arith) in
-    rw (drop-cons xs i nan) (set-at (take i (x ∷ xs)) _ (drop (suc i) xs) _ i l ∙ snoc-take (x ∷ xs) (drop (suc i) xs) i (omega arith))
+  pub push-turn : {s : List Float} {carried : Float} (i : ℕ) → i < n → Pushing n s₀ x s carried i → Pushing n s₀ x (set s i carried) (getD s i nan) (i + 1)
+  push-turn i h p =
+      (overwrite-turn i i nan (omega arith) h (p .1 ∙ sym (getD-take n (x ∷ s₀) i nan h)) (p .0), rw add-one (overwrite-ahead i i nan (omega arith) h (p .0)))
 
-push-next : (xs : List Float) (x : Float) (i : ℕ) → i < length xs → getD (pushed i x xs) i nan ≡ getD xs i nan
-unfolding pushed
-push-next xs x i h =
-    let l : length (take i (x ∷ xs)) ≡ i = length-take-le i (x ∷ xs) (omega arith) in
-    rw (drop-cons xs i nan) (getD-at (take i (x ∷ xs)) _ (drop (suc i) xs) nan i l)
-
-pub push-turn : (s₀ : List Float) (x : Float) (s : List Float) (carried : Float) (i : ℕ) → i < length s₀ → Pushing s₀ x s carried i
-    → Pushing s₀ x (set s i carried) (getD s i nan) (i + 1)
-push-turn s₀ x s carried i h p =
-    (rw (p .0, p .1, add-one) (push-more s₀ x i h), rw (p .0, add-one) (push-next s₀ x i h), length-set s i carried ∙ p .2)
+  pub push-done : {s : List Float} {carried : Float} (i : ℕ) → n ≤ i → Pushing n s₀ x s carried i → s ≡ pushed n x s₀
+  unfolding pushed
+  push-done i h p = overwrite-front i h (p .0)
 
 -- the newest m of the places after a push
 pub take-pushed : (m n : ℕ) (x : Float) (xs : List Float) → m ≤ n → n ≤ length xs → take m (pushed n x xs) ≡ take m (x ∷ xs)
@@ -68,23 +60,16 @@ pub sum-turn : (f : Format) (ts s : List Float) (y : Float) (n i : ℕ) → i < 
     → Summing f ts (take n s) (add f y (mul f (getD ts i nan) (getD s i nan))) (i + 1)
 unfolding sum
 sum-turn f ts s y n i h ht hs p =
-    let k : i < length ts = omega arith in
-    let l : i < length (take n s) = simp length-take (omega arith) in
-    let e = drop-cons ts i nan k in
-    let d = drop-cons (take n s) i nan l in
-    rw (add-one, ← getD-take n s i nan h) (rw (e, d) at p)
+    front-turn (sum f y (drop i ts)) s i n (sum f (add f y (mul f (getD ts i nan) (getD s i nan))) (drop (i + 1) ts)) nan h hs
+    (λ rest. rw (drop-cons ts i nan (omega arith), add-one)) p
 
 pub sum-none : (f : Format) (ts : List Float) (y : Float) → sum f y ts [] ≡ y
 unfolding sum
 sum-none f [] y = refl
 sum-none f (t ∷ ts) y = refl
 
--- past the last of the first n places nothing is left
-none-left : (s : List Float) (n i : ℕ) → n ≤ i → drop i (take n s) ≡ []
-none-left s n i k = drop-of-length-le (take n s) {i = i} (simp length-take (omega arith))
-
 pub sum-done : (f : Format) (ts s : List Float) (y : Float) (n i : ℕ) → n ≤ i → Summing f ts (take n s) y i → y ≡ sum f plusZero ts (take n s)
-sum-done f ts s y n i k p = sym (sum-none f (drop i ts) y) ∙ (rw (none-left s n i k) at p)
+sum-done f ts s y n i k p = sym (sum-none f (drop i ts) y) ∙ front-done (sum f y (drop i ts)) s i n k p
 
 -- ---- a sum that is finite has finite samples alone
 neither : (b : Bool) (x y : Float) → finite x ≡ false → finite y ≡ false → finite (cond b x y) ≡ true → ⊥
@@ -126,33 +111,7 @@ pub finite-clear : (f : Format) (y : Float) (ts s : List Float) (n : ℕ) → n 
 unfolding clouding
 finite-clear f y ts s n h k e g = sym (sum-finite f plusZero ts (take n s) (simp length-take (omega arith)) (rw e at g) .1)
 
--- ---- the loop that looks for a sample that is not finite: none so far
-abbrev pub Looking : List Float → ℕ → Type 0
-Looking xs i = notAllFinite (drop i xs) ≡ notAllFinite xs
-
-look-more : (s : List Float) (n i : ℕ) → i < n → n ≤ length s → notAllFinite (drop i (take n s))
-    ≡ not (finite (getD s i nan)) || notAllFinite (drop (suc i) (take n s))
-unfolding notAllFinite
-look-more s n i h k =
-    let l : i < length (take n s) = simp length-take (omega arith) in
-    let d = drop-cons (take n s) i nan l in
-    rw (d, getD-take n s i nan h)
-
-pub look-turn : (s : List Float) (n i : ℕ) → i < n → n ≤ length s → finite (getD s i nan) ≡ true → Looking (take n s) i → Looking (take n s) (i + 1)
-look-turn s n i h k e p = rw (add-one) (sym (rw e at (look-more s n i h k)) ∙ p)
-
-pub look-found : (s : List Float) (n i : ℕ) → i < n → n ≤ length s → finite (getD s i nan) ≡ false → Looking (take n s) i → true ≡ notAllFinite (take n s)
-look-found s n i h k e p = sym (rw e at (look-more s n i h k)) ∙ p
-
-pub look-done : (s : List Float) (n i : ℕ) → n ≤ i → Looking (take n s) i → false ≡ notAllFinite (take n s)
-unfolding notAllFinite
-look-done s n i k p = rw (none-left s n i k) at p
-
 -- ---- the check: what a record that passes it has
-both : (a b : Bool) → (a && b) ≡ true → (a ≡ true) × (b ≡ true)
-both true b h = (refl, h)
-both false b h = absurd (true≢false (sym h))
-
 pub record Sizes (capacity n held : ℕ) : Type 0 where
   pub some : 1 ≤ n
   pub within : n ≤ capacity
@@ -202,11 +161,6 @@ pub passed : (f : Format) (r : TapsRecord) (x : Float) {out : Float} {m : Bool} 
 unfolding next heldOf value mark
 passed f r x es eh eo em = (rw (eo, es, eh), rw (em, es, eh), rw (es, eh))
 
--- the answer of a step
-pub answer-is : (f : Format) (capacity : ℕ) (r : TapsRecord) (x : Float) {y : Float} {m : Bool} (b : Bool) → y ≡ value f r x → m ≡ mark r x → m ≡ b
-    → marked b y ≡ answer (fir capacity f) r x
-answer-is f capacity r x b v k e = ap₂ marked (sym e ∙ k) v
-
 -- ---- lent records
 pub fits-lengths : (capacity : ℕ) (r : TapsRecord) → fits capacity r ≡ true → (length (r .taps) ≡ capacity) × (length (r .samples) ≡ capacity)
 unfolding fits
@@ -239,7 +193,8 @@ module _ (f : Format) (capacity : ℕ) (r : TapsRecord) (fit : fits capacity r �
       → _≡_ {A = Step TapsRecord} (record { answer = marked b y; state = lentTaps (r .taps) s (r .length) h (r .window) })
       (lentStep (fir capacity f) (fits capacity) r x)
   update-is x b e k = let p = passed f r x (e .0) (e .1) (e .2) (e .3) in
-      step-answered (fir capacity f) r x good (answer-is f capacity r x b (p .0) (p .1) k) (p .2) ∙ sym (lent-step (fir capacity f) (fits capacity) r x fit)
+      step-answered (fir capacity f) r x good (answer-is (fir capacity f) r x b (p .0) (p .1) k) (p .2)
+      ∙ sym (lent-step (fir capacity f) (fits capacity) r x fit)
 
   pub reset-is : {s : List Float} → s ≡ replicate (length (r .samples)) plusZero
       → _≡_ {A = Reset TapsRecord} (record { refusal = Accepted; state = lentTaps (r .taps) s (r .length) 0 (r .window) })
@@ -248,21 +203,6 @@ module _ (f : Format) (capacity : ℕ) (r : TapsRecord) (fit : fits capacity r �
   reset-is e = reset-done (fir capacity f) r good (rw (e, fits-lengths capacity r fit .1)) ∙ sym (lent-reset (fir capacity f) (fits capacity) r fit)
 
 -- ---- ready-made taps
-drop-replicate : (n i : ℕ) (a : Float) → drop i (replicate n a) ≡ replicate (n - i) a
-drop-replicate n zero a = rw (sub-zero)
-drop-replicate zero (suc i) a = rw (zero-sub)
-drop-replicate (suc n) (suc i) a = rw (suc-sub-suc) (drop-replicate n i a)
-
--- the loop that clears copies +0
-abbrev pub Clearing : List Float → List Float → ℕ → Type 0
-Clearing l₀ l i = Copying (replicate (length l₀) plusZero) l₀ l i
-
-pub clear-turn : (l₀ l : List Float) (i : ℕ) → i < length l₀ → Clearing l₀ l i → Clearing l₀ (set l i plusZero) (i + 1)
-clear-turn l₀ l i h p = rw (getD-replicate (length l₀) i plusZero nan h) at (copy-turn (replicate (length l₀) plusZero) l₀ l i (rw length-replicate h) h p)
-
-pub clear-done : (l₀ l : List Float) (i : ℕ) → length l₀ ≤ i → Clearing l₀ l i → l ≡ replicate (length l₀) plusZero
-clear-done l₀ l i h p = copy-done (replicate (length l₀) plusZero) l₀ l i (rw length-replicate h) (length-replicate (length l₀) plusZero) p
-
 module _ (capacity : ℕ) (ts : List Float) where
   pub made-none : {r : TapsRecord} → length ts < 1 → r ≡ blankTaps capacity
       → _≡_ {A = Made} (record { refusal = InvalidOrder; filter = r }) (fromCoeffs capacity ts)
@@ -275,8 +215,10 @@ module _ (capacity : ℕ) (ts : List Float) where
   unfolding fromCoeffs orderRefused
   made-many h k e = rw (ne-eqb (length ts) 0 (λ z. omega arith), lt-ltb capacity (length ts) k, e)
 
-  pub made : {l s : List Float} (i : ℕ) → 1 ≤ length ts → length ts ≤ capacity → i ≡ length ts → s ≡ zeros capacity → Copying ts (zeros capacity) l i
+  pub made : {l s : List Float} (i : ℕ) → 1 ≤ length ts → length ts ≤ capacity → i ≡ length ts → s ≡ zeros capacity
+      → Overwriting (zeros capacity) 0 ts (length ts) l i
       → _≡_ {A = Made} (record { refusal = Accepted; filter = record { taps = l; samples = s; length = length ts; held = 0; window = ReadyMade } })
       (fromCoeffs capacity ts)
   unfolding fromCoeffs orderRefused holding
-  made i h k ei es p = rw (ne-eqb (length ts) 0 (λ z. omega arith), le-ltb capacity (length ts) k, p .0, es, ei, take-length, drop-replicate)
+  made i h k ei es p =
+      rw (ne-eqb (length ts) 0 (λ z. omega arith), le-ltb capacity (length ts) k, overwrite-front i (omega arith) p, es, drop-replicate)

@@ -7,13 +7,14 @@ use native.Mathlib.Omega.{arith}
 use lib.ListN.{length, getD, take, drop, length-drop, length-append, take-append-drop, List·getD-append}
 use lib.Seq.{take-all, getD-take, getD-drop, getD-append-add, length-take-le, take-at}
 use lib.Ieee.{Float, nan, Format}
-use Rattle.fir_theory.specs.Convolution.{sumsFrom, spliced}
+use Rattle.lists.specs.Lists.{spliced}
+use Rattle.fir_theory.specs.Convolution.{sumsFrom}
 use borrow.Author.Tests.{lt-ltb, le-ltb}
 use Rattle.fir_theory.specs.Blocks.{backFrom, newestOf}
 use Rattle.fir_theory.proofs.Copies.{part-length}
 use Rattle.fir_theory.proofs.Full.{Past, past-after, back-past, values, values-at}
 
-back-at : (n : ℕ) (x : List Float) (k j : ℕ) → j < n → getD (backFrom n x k) j nan ≡ getD x (k - j) nan
+pub back-at : (n : ℕ) (x : List Float) (k j : ℕ) → j < n → getD (backFrom n x k) j nan ≡ getD x (k - j) nan
 unfolding backFrom
 back-at zero x k j h = absurd (omega arith)
 back-at (suc n) x k zero h = rw sub-zero

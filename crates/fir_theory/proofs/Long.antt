@@ -12,8 +12,10 @@ use lib.Ieee.{Float, Format, binary64}
 use borrow.Author.Tests.{le-leb, ltb-true, ltb-false}
 use Rattle.runs.specs.Runs.{Answer, Block, cloudedIn, written, answers, after, block}
 use Rattle.runs.proofs.Laws.{front-is, check-after, written-length, block-parts, parts-few}
-use Rattle.fir_theory.specs.Convolution.{sumsFrom, spliced, convolvable, convolved}
-use Rattle.fir_theory.proofs.Sums.{length-sums, spliced-more, spliced-length}
+use Rattle.fir_theory.specs.Convolution.{sumsFrom, convolvable, convolved}
+use Rattle.lists.specs.Lists.{spliced}
+use Rattle.lists.proofs.Splices.{spliced-more, spliced-length}
+use Rattle.fir_theory.proofs.Sums.{length-sums}
 use Rattle.fir_theory.specs.Fir.{TapsRecord, checkTaps, fir}
 use Rattle.fir_theory.specs.Blocks.{backFrom, finiteRun, cloudsFrom, newestOf, ranBlock, FullRun}
 use Rattle.limits.specs.Limits.{maxTaps as places}

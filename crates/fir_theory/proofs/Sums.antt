@@ -1,42 +1,31 @@
 -- Sums side by side: the loop that adds one tap's products to all of them, and the loop over the taps.
 use mathlib.Core.Path.{_≡_, refl, sym, ap, ap₂, _∙_}
-use mathlib.Core.Bool.{Bool, true, false, and-false}
-use mathlib.Core.List.{List, [], _∷_, _++_, append-assoc}
+use mathlib.Core.Bool.{true, false, and-false}
+use mathlib.Core.List.{List, [], _∷_, _++_}
 use Prim.Native.Nat.{ℕ, zero, suc, _+_, _-_, _<_, _≤_}
 use native.Mathlib.Nat.{zero-add, suc-add, add-zero, add-suc}
 use native.Mathlib.Numerals.{add-one}
 use native.Mathlib.Omega.{arith}
 use lib.Dec.{leb}
-use borrow.Author.Tests.{le-leb, lt-leb, leb-true, leb-false}
-use lib.ListN.{length, getD, set, take, drop, length-set, take-append-drop, drop-of-length-le, length-append, length-take, length-drop}
-use lib.Seq.{drop-cons, take-suc-set, drop-set-lt, drop-drop, take-at, drop-at, set-split}
+use borrow.Author.Tests.{le-leb, lt-leb}
+use lib.ListN.{length, getD, take-append-drop}
 use lib.Ieee.{Float, nan, Format, add, mul}
-use Rattle.fir_theory.specs.Convolution.{sumAt, sumsFrom, scaled, spliced, convolvable, convolved}
+use Rattle.fir_theory.specs.Convolution.{sumAt, sumsFrom, scaled, convolvable, convolved}
+use Rattle.lists.specs.Lists.{spliced}
+use Rattle.lists.proofs.Splices.{spliced-length, spliced-more}
 
-module _ (f : Format) (sums₀ : List Float) (t : Float) (x : List Float) (k : ℕ) where
-  -- the sums before j are done
-  pub record Scaling (sums : List Float) (j : ℕ) : Type 0 where
-    pub same : length sums ≡ length sums₀
-    pub rest : take j sums ++ scaled f (drop j sums) t x (k + j) ≡ scaled f sums₀ t x k
+-- ---- one tap's products
+pub scaled-length : (f : Format) (sums : List Float) (t : Float) (x : List Float) (k : ℕ) → length (scaled f sums t x k) ≡ length sums
+unfolding scaled
+scaled-length f [] t x k = refl
+scaled-length f (y ∷ sums) t x k = ap suc (scaled-length f sums t x (suc k))
 
-  pub scale-start : Scaling sums₀ 0
-  scale-start = record { same = refl; rest = rw add-zero }
-
-  pub scale-turn : {sums : List Float} {j : ℕ} → j < length sums → Scaling sums j
-      → Scaling (set sums j (add f (getD sums j nan) (mul f t (getD x (k + j) nan)))) (j + 1)
-  unfolding scaled
-  scale-turn {sums} {j} h p =
-      let v = add f (getD sums j nan) (mul f t (getD x (k + j) nan)) in
-      let d = drop-cons sums j nan h in
-      record {
-        same = rw length-set (p .same);
-        rest = rw (add-one, take-suc-set sums j v h, drop-set-lt (suc j) sums j v (omega arith), append-assoc, add-suc) (rw d at (p .rest));
-      }
-
-  pub scale-done : {sums : List Float} {j : ℕ} → length sums ≤ j → Scaling sums j → sums ≡ scaled f sums₀ t x k
-  unfolding scaled
-  scale-done {sums} {j} h p = let d = drop-of-length-le sums {i = j} h in
-      sym (take-append-drop j sums) ∙ ap (λ (l : List Float). take j sums ++ l) d ∙ (rw d at (p .rest))
+pub scaled-at : (f : Format) (sums : List Float) (t : Float) (x : List Float) (k j : ℕ) → j < length sums
+    → add f (getD sums j nan) (mul f t (getD x (k + j) nan)) ≡ getD (scaled f sums t x k) j nan
+unfolding scaled
+scaled-at f [] t x k j h = absurd (omega arith)
+scaled-at f (y ∷ sums) t x k zero h = rw add-zero
+scaled-at f (y ∷ sums) t x k (suc j) h = rw (add-suc, ← suc-add) (scaled-at f sums t x (suc k) j (omega arith))
 
 -- ---- one tap more at each of the sums
 module _ (f : Format) (taps : List Float) (x : List Float) where
@@ -63,70 +52,18 @@ module _ (f : Format) (taps : List Float) (x : List Float) where
   pub taps-done : {sums : List Float} (i n k m : ℕ) → i ≤ n → n ≤ i → sums ≡ sumsFrom f taps i x k m → sums ≡ sumsFrom f taps n x k m
   taps-done i n k m h l e = let q : i ≡ n = omega arith in e ∙ ap (λ (z : ℕ). sumsFrom f taps z x k m) q
 
+  pub sums-at : (n k m j : ℕ) → j < m → sumAt f taps n x (k + j) ≡ getD (sumsFrom f taps n x k m) j nan
+  unfolding sumsFrom
+  sums-at n k zero j h = absurd (omega arith)
+  sums-at n k (suc m) zero h = rw add-zero
+  sums-at n k (suc m) (suc j) h = rw (add-suc, ← suc-add) (sums-at n (suc k) m j (omega arith))
+
   -- ---- sums at one place after the other
   pub sums-append : (n k a b : ℕ) → sumsFrom f taps n x k (a + b) ≡ sumsFrom f taps n x k a ++ sumsFrom f taps n x (k + a) b
   unfolding sumsFrom
   sums-append n k zero b = rw (zero-add, add-zero)
   sums-append n k (suc a) b = rw (suc-add, add-suc) (ap (λ (l : List Float). sumAt f taps n x k ∷ l) (sums-append n (suc k) a b
       ∙ ap (λ (z : ℕ). sumsFrom f taps n x (suc k) a ++ sumsFrom f taps n x z b) (suc-add k a)))
-
--- ---- what is put into a list
-pub spliced-length : (output : List Float) (to : ℕ) (ys : List Float) → to + length ys ≤ length output → length (spliced output to ys) ≡ length output
-unfolding spliced
-spliced-length output to ys h = simp (length-append, length-take, length-drop) (omega arith)
-
--- more behind what was put
-pub spliced-more : (output : List Float) (to : ℕ) (ys zs : List Float) → to + length ys + length zs ≤ length output
-    → spliced (spliced output to ys) (to + length ys) zs ≡ spliced output to (ys ++ zs)
-unfolding spliced
-spliced-more output to ys zs h =
-    let front = take to output ++ ys in
-    let back = drop (to + length ys) output in
-    let l : length front ≡ to + length ys = simp (length-append, length-take) (omega arith) in
-    let e : to + length ys + length zs ≡ to + (length ys + length zs) = omega arith in
-    let a : take to output ++ (ys ++ back) ≡ front ++ back = sym (append-assoc (take to output) ys back) in
-    rw (
-      a,
-      take-at front back (to + length ys) l,
-      ← drop-drop (length zs) (to + length ys) (front ++ back),
-      drop-at front back (to + length ys) l,
-      length-append,
-      append-assoc,
-      drop-drop,
-      append-assoc,
-    )
-    (ap (λ (z : ℕ). take to output ++ (ys ++ (zs ++ drop z output))) e)
-
--- ---- the loop that puts: the first j are in place
-pub record Putting (output₀ : List Float) (to : ℕ) (ys output : List Float) (j : ℕ) : Type 0 where
-  pub within : j ≤ length ys
-  pub same : length output ≡ length output₀
-  pub places : take (to + j) output ++ (drop j ys ++ drop (to + length ys) output) ≡ spliced output₀ to ys
-
-pub put-start : (output : List Float) (to : ℕ) (ys : List Float) → Putting output to ys output 0
-unfolding spliced
-put-start output to ys = record { within = omega arith; same = refl; places = rw add-zero }
-
-pub put-turn : {output₀ : List Float} (to : ℕ) {ys output : List Float} (j : ℕ) → j < length ys → to + length ys ≤ length output₀
-    → Putting output₀ to ys output j
-    → Putting output₀ to ys (set output (to + j) (getD ys j nan)) (j + 1)
-put-turn to {ys} {output} j h k p =
-    let v = getD ys j nan in
-    let l : to + j < length output = omega (arith, p .same) in
-    let d = drop-cons ys j nan h in
-    record {
-      within = omega arith;
-      same = rw length-set (p .same);
-      places = rw (add-one, add-suc, take-suc-set output (to + j) v l, drop-set-lt (to + length ys) output (to + j) v (omega arith), append-assoc)
-          (rw d at (p .places));
-    }
-
-pub put-done : {output₀ : List Float} (to : ℕ) {ys output : List Float} (j : ℕ) → length ys ≤ j → Putting output₀ to ys output j → output
-    ≡ spliced output₀ to ys
-put-done to {ys} {output} j h p =
-    let d = drop-of-length-le ys {i = j} h in
-    let q : j ≡ length ys = omega (arith, p .within) in
-    sym (take-append-drop (to + j) output) ∙ ap (λ (z : ℕ). take (to + j) output ++ drop (to + z) output) q ∙ (rw d at (p .places))
 
 -- ---- one sum: i taps so far
 pub one-turn : (f : Format) (taps x : List Float) (i k : ℕ) {s : Float} → s ≡ sumAt f taps i x k → add f s (mul f (getD taps i nan) (getD x (k - i) nan))
@@ -137,7 +74,7 @@ one-turn f taps x i k e = rw (add-one, e)
 pub one-done : (f : Format) (taps x : List Float) (i n k : ℕ) {s : Float} → i ≤ n → n ≤ i → s ≡ sumAt f taps i x k → s ≡ sumAt f taps n x k
 one-done f taps x i n k h l e = let q : i ≡ n = omega arith in e ∙ ap (λ (z : ℕ). sumAt f taps z x k) q
 
--- ---- outputs in place: the first j of m
+-- ---- outputs in place, several at a time: the first j of m
 module _ (f : Format) (taps : List Float) (n : ℕ) (x : List Float) (at : ℕ) (output₀ : List Float) (to m : ℕ) where
   pub record Outputting (output : List Float) (j : ℕ) : Type 0 where
     pub within : j ≤ m
@@ -167,17 +104,6 @@ module _ (f : Format) (taps : List Float) (n : ℕ) (x : List Float) (at : ℕ) 
         places = r;
       }
 
-  -- one sum more, stored by itself
-  pub out-one : {output : List Float} {v : Float} {j : ℕ} → j < m → to + m ≤ length output₀ → v ≡ sumAt f taps n x (at + j) → Outputting output j
-      → Outputting (set output (to + j) v) (j + 1)
-  unfolding spliced sumsFrom
-  out-one {output} {v} {j} h k e p =
-      out-turn 1 (omega arith) k (ap (λ (y : Float). y ∷ []) e)
-      (set-split output (to + j) v (omega (arith, p .same)) ∙ ap (λ (z : ℕ). take (to + j) output ++ v ∷ drop z output) (sym (add-one (to + j)))) p
-
-  pub out-done : {output : List Float} {j : ℕ} → m ≤ j → Outputting output j → output ≡ spliced output₀ to (sumsFrom f taps n x at m)
-  out-done {output} {j} h p = let q : j ≡ m = omega (arith, p .within) in p .places ∙ ap (λ (z : ℕ). spliced output₀ to (sumsFrom f taps n x at z)) q
-
 -- ---- the two parts together
 pub parts : (f : Format) (taps : List Float) (n : ℕ) (x : List Float) (at : ℕ) (output₀ output output′ : List Float) (to m j : ℕ) → j ≤ m
     → to + m ≤ length output₀
@@ -190,13 +116,6 @@ parts f taps n x at output₀ output output′ to m j h k e g =
     ∙ ap (λ (z : ℕ). spliced output₀ to (sumsFrom f taps n x at z)) q
 
 -- ---- whether all places are there
-pub room : (length at m : ℕ) → at ≤ length → leb m (length - at) ≡ leb (at + m) length
-room length at m h = go (leb (at + m) length) refl
-  where
-    go : (b : Bool) → leb (at + m) length ≡ b → leb m (length - at) ≡ b
-    go true e = le-leb m (length - at) (omega (arith, leb-true (at + m) length e))
-    go false e = lt-leb m (length - at) (omega (arith, leb-false (at + m) length e))
-
 module _ (f : Format) (n : ℕ) (taps x : List Float) (at : ℕ) (output : List Float) (to m : ℕ) where
   left-as-was : convolvable n taps x at output to m ≡ false → (false ≡ convolvable n taps x at output to m) × (output ≡ convolved f n taps x at output to m)
   unfolding convolved

@@ -1,11 +1,12 @@
 -- Sums of taps and samples at places of a list of samples that stand oldest first. They are no part of what is promised.
 use Prim.Native.Nat.{ℕ, zero, suc, _+_, _-_}
-use mathlib.Core.List.{List, [], _∷_, _++_}
+use mathlib.Core.List.{List, [], _∷_}
 use mathlib.Core.Bool.{Bool, _&&_, cond}
 use lib.Dec.{leb}
-use lib.ListN.{length, getD, take, drop}
+use lib.ListN.{length, getD}
 use lib.Ieee.{Float, nan, Format, add, mul}
 use Rattle.limits.specs.Zero.{plusZero}
+use Rattle.lists.specs.Lists.{spliced}
 
 module _ (f : Format) (taps : List Float) where
   -- +0, then tap i × the sample i places before place k is added, from i = 0 on, for n taps
@@ -22,10 +23,6 @@ module _ (f : Format) (taps : List Float) where
 unfoldable pub scaled : Format → List Float → Float → List Float → ℕ → List Float
 scaled f [] t x k = []
 scaled f (y ∷ sums) t x k = add f y (mul f t (getD x k nan)) ∷ scaled f sums t x (suc k)
-
--- the output with these in its places from `to` on
-unfoldable pub spliced : List Float → ℕ → List Float → List Float
-spliced output to ys = take to output ++ (ys ++ drop (to + length ys) output)
 
 -- whether all places are there: n samples before place `at`, the taps, m samples from `at` on, and m places of the output from `to` on
 unfoldable pub convolvable : ℕ → List Float → List Float → ℕ → List Float → ℕ → ℕ → Bool

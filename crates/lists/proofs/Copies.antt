@@ -1,55 +1,25 @@
--- The loop that copies, and what a copy is by the lengths.
-use mathlib.Core.Path.{_≡_, refl, sym, ap, _∙_}
+-- What a copy is by the lengths.
+use mathlib.Core.Path.{_≡_, refl, ap}
 use mathlib.Core.Bool.{Bool, true, false}
-use mathlib.Core.List.{List, _∷_, _++_, append-assoc, append-nil}
-use Prim.Native.Nat.{ℕ, suc, _+_, _<_, _≤_, min}
-use native.Mathlib.Numerals.{add-one}
+use mathlib.Core.List.{List, _++_, append-nil}
+use Prim.Native.Nat.{ℕ, _≤_}
 use native.Mathlib.Omega.{arith}
 use lib.Dec.{ltb}
+use lib.ListN.{length, take, drop, drop-of-length-le}
+use lib.Seq.{length-take-le, take-all, take-at, drop-length}
 use borrow.Author.Tests.{ltb-true, ltb-false}
-use lib.ListN.{length, getD, set, take, drop, length-set, drop-of-length-le}
-use lib.Seq.{drop-cons, take-suc, set-at, length-take-le, take-all, take-length, drop-length, take-at}
-use lib.Ieee.{Float, nan}
+use lib.Ieee.{Float}
 use Rattle.lists.specs.Copies.{copied}
 
--- a number behind the ones before it
-pub snoc-take : (l ys : List Float) (i : ℕ) → i < length l → take i l ++ getD l i nan ∷ ys ≡ take (suc i) l ++ ys
-snoc-take l ys i h = rw (take-suc l i nan, append-assoc)
-
--- the loop that copies: the first i are in place
-abbrev pub Copying : List Float → List Float → List Float → ℕ → Type 0
-Copying ts l₀ l i = (l ≡ take i ts ++ drop i l₀) × (length l ≡ length l₀)
-
-pub copy-start : (ts l₀ l : List Float) → l ≡ l₀ → Copying ts l₀ l 0
-copy-start ts l₀ l e = (e, ap length e)
-
-pub copy-turn : (ts l₀ l : List Float) (i : ℕ) → i < length ts → i < length l₀ → Copying ts l₀ l i → Copying ts l₀ (set l i (getD ts i nan)) (i + 1)
-copy-turn ts l₀ l i h k p =
-    let t : length (take i ts) ≡ i = length-take-le i ts (omega arith) in
-    let e = drop-cons l₀ i nan k in
-    (rw (p .0, add-one, e) (set-at (take i ts) _ (drop (suc i) l₀) _ i t ∙ snoc-take ts (drop (suc i) l₀) i h), length-set l i (getD ts i nan) ∙ p .1)
-
-pub copy-done : (ts l₀ l : List Float) (i : ℕ) → length ts ≤ i → length ts ≡ length l₀ → Copying ts l₀ l i → l ≡ ts
-copy-done ts l₀ l i h k p = let z = drop-of-length-le l₀ {i = i} (omega arith) in
-    p .0 ∙ rw (z, append-nil) (take-all i ts h)
-
--- where no number is left, or no place
-pub copied-all : (ts l₀ l : List Float) (i : ℕ) → i ≡ min (length ts) (length l₀) → Copying ts l₀ l i → l ≡ copied ts l₀
+-- as many as there are and have room, in front
+pub copied-all : (ts l : List Float) {n : ℕ} → length (take (length l) ts) ≡ n → take (length l) ts ++ drop n l ≡ copied ts l
 unfolding copied
-copied-all ts l₀ l i e p = p .0 ∙ go (ltb (length ts) (length l₀)) refl
+copied-all ts l k = rw (← k) (ap (λ (t : List Float). take (length l) ts ++ t) (go (ltb (length ts) (length l)) refl))
   where
-    few : length ts ≤ length l₀ → take i ts ++ drop i l₀ ≡ copied ts l₀
-    few h = let n : i ≡ length ts = omega (arith, e) in
-        ap (λ (z : ℕ). take z ts ++ drop z l₀) n ∙ ap (λ (t : List Float). t ++ drop (length ts) l₀) (take-length ts ∙ sym (take-all (length l₀) ts h))
-
-    many : length l₀ ≤ length ts → take i ts ++ drop i l₀ ≡ copied ts l₀
-    many h = let n : i ≡ length l₀ = omega (arith, e) in
-        ap (λ (z : ℕ). take z ts ++ drop z l₀) n ∙ ap (λ (t : List Float). take (length l₀) ts ++ t) (drop-length l₀
-        ∙ sym (drop-of-length-le l₀ {i = length ts} h))
-
-    go : (b : Bool) → ltb (length ts) (length l₀) ≡ b → take i ts ++ drop i l₀ ≡ copied ts l₀
-    go true t = few (omega (arith, ltb-true (length ts) (length l₀) t))
-    go false t = many (ltb-false (length ts) (length l₀) t)
+    go : (b : Bool) → ltb (length ts) (length l) ≡ b → drop (length (take (length l) ts)) l ≡ drop (length ts) l
+    go true e = rw (take-all (length l) ts (omega (arith, ltb-true (length ts) (length l) e)))
+    go false e = let h = ltb-false (length ts) (length l) e in
+        rw (length-take-le (length l) ts h, drop-of-length-le l {i = length ts} h) (drop-length l)
 
 -- into as many places as there are numbers, or more
 pub copied-same : (ts l : List Float) → length ts ≡ length l → copied ts l ≡ ts

@@ -1,5 +1,7 @@
-// What several crates do with lists of numbers.
+// What several crates do with lists: copying, and whether places are there.
 ghost use mathlib.Core.Path.{_≡_};
+ghost use Prim.Native.Nat.{_+_};
+ghost use lib.Dec.{leb};
 ghost use Rattle.lists.specs.Copies.{copied};
 
 // The numbers of one slice into the first places of another, as far as both go.
@@ -16,4 +18,14 @@ pub fn copy(from: &[f64], to: &mut [f64])
         to[i] = from[i];
         i += 1;
     }
+}
+
+// Whether a run of m places from place `at` on lies within a length.
+pub fn within(at: usize, m: usize, length: usize) -> bool
+    ensures { λ r. ⌜ r ≡ leb (at + m) length ⌝ }
+{
+    if at > length {
+        return false;
+    }
+    m <= length - at
 }

@@ -1,10 +1,7 @@
 // Four sections in a row over a block of samples, skewed: each section works one sample behind the section before it, so
 // that none waits for another within a turn. Operations and answers are those of one sample after the other.
 ghost use mathlib.Core.Path.{_≡_};
-ghost use mathlib.Core.Bool.{cond};
 ghost use lib.Ieee.{binary64};
-ghost use lib.Ieee.Scale.{finite};
-ghost use Rattle.runs.specs.Runs.{notAllFinite};
 ghost use Rattle.cascade_theory.specs.Skew.{filled, lineOut, advanced, drained, ran};
 ghost use Rattle.pipeline.specs.View.{fourView, lineView, drainedView, ranView};
 use sections::Section;
@@ -146,25 +143,4 @@ pub fn run(four: Four, input: &[f64], output: &mut [f64]) -> RunResult
         four: last,
         done: true,
     }
-}
-
-// One where x is an infinity or a NaN, else none.
-fn not_finite(x: f64) -> usize
-    ensures { λ r. ⌜ r ≡ cond (finite x) 0 1 ⌝ }
-{
-    if scalar::is_finite(x) { 0 } else { 1 }
-}
-
-// Whether some sample is an infinity or a NaN: such samples are counted, with no way out of the loop, so that the compiler
-// can look at several at a time.
-pub fn not_all_finite(samples: &[f64]) -> bool
-    ensures { λ r. ⌜ r ≡ notAllFinite (now (samples .entry)) ⌝ }
-{
-    let mut count: usize = 0;
-    let mut i: usize = 0;
-    while i < samples.len() {
-        count += not_finite(samples[i]);
-        i += 1;
-    }
-    count > 0
 }

@@ -12,7 +12,8 @@ use Rattle.runs.specs.Runs.{Answer, marked, refusalOf, cloudedIn, placed
 use Rattle.runs.specs.Forgetting.{Call, step, block, reset, Outcome, stepped, blocked, wasReset, outcome, left, run, Plain, isShort, keptAfter}
 use Rattle.runs.specs.Forgetting.{plainAnswer, plainAnswers, plainOutcome, plainRun, answered, isReset, dues, all, shown, places, ofStep, ofBlock, seenOf}
 use Rattle.runs.specs.Forgetting.{seen, refusedBy, Forgets}
-use Rattle.runs.proofs.Laws.{step-is}
+use Rattle.lists.proofs.Tests.{both}
+use Rattle.runs.proofs.Laws.{marked-accepted, step-is}
 
 -- What has to be shown of a filter F and the plain filter P that is fed `fed`. `Beside since kept s`: the record s is what the kept samples made of the
 -- starting record, or of a cleared one where there was a reset since.
@@ -24,22 +25,10 @@ pub record Simulates (F : Filter) (P : Plain) (fed : P .Fed) : Type 1 where
   pub same : {since : Bool} {kept : List Float} {s : F .State} (x : Float) → Beside since kept s → since || P .enough fed (suc (length kept)) ≡ true
       → answer F s x ≡ plainAnswer P fed (x ∷ kept)
 
-and-left : (a b : Bool) → (a && b) ≡ true → a ≡ true
-and-left true b e = refl
-and-left false b e = e
-
-and-right : (a b : Bool) → (a && b) ≡ true → b ≡ true
-and-right true b e = e
-and-right false b e = absurd (true≢false (sym e))
-
 -- what is shown is equal if what is due is
 shown-same : {A : Type 0} (d : Bool) {a b : A} → (d ≡ true → a ≡ b) → shown d a ≡ shown d b
 shown-same true h = ap (shown true) (h refl)
 shown-same false h = refl
-
-answered-refusal : (b : Bool) (y : Float) → refusalOf (marked b y) ≡ 0
-answered-refusal true y = refl
-answered-refusal false y = refl
 
 -- a block that is answered, or whose output is short
 abbrev pub ran : Bool → List Answer → List Float → Outcome
@@ -115,7 +104,7 @@ module _ (F : Filter) (P : Plain) (fed : P .Fed) (S : Simulates F P fed) where
   answers-same {since} {kept} {s} (x ∷ xs) b e =
       let d = since || P .enough fed (suc (length kept)) in
       let ds = dues P fed since (suc (length kept)) xs in
-      rw (step-is F s x (S .good b)) (ap₂ _∷_ (S .same x b (and-left d (all ds) e)) (answers-same xs (S .turn x b) (and-right d (all ds) e)))
+      rw (step-is F s x (S .good b)) (ap₂ _∷_ (S .same x b (both d (all ds) e .0)) (answers-same xs (S .turn x b) (both d (all ds) e .1)))
 
   -- ---- one call: all of its outcome where all is due, and what is seen of it anyway
 
@@ -128,7 +117,7 @@ module _ (F : Filter) (P : Plain) (fed : P .Fed) (S : Simulates F P fed) where
       → outcome F s c ≡ plainOutcome P fed kept c
   unfolding answered dues plainOutcome
   call-same {since} {kept} {s} (step x) b e =
-      step-outcome F s (S .good b) x ∙ ap stepped (S .same x b (and-left (since || P .enough fed (suc (length kept))) true e))
+      step-outcome F s (S .good b) x ∙ ap stepped (S .same x b (both (since || P .enough fed (suc (length kept))) true e .0))
   call-same {since} {kept} {s} (block input output) b e = block-outcome F s (S .good b) input output ∙ block-same (isShort input output) input output b e
   call-same {since} {kept} {s} reset b e = reset-outcome F s (S .good b)
 
@@ -148,8 +137,8 @@ module _ (F : Filter) (P : Plain) (fed : P .Fed) (S : Simulates F P fed) where
   call-seen {since} {kept} {s} (step x) b =
       let d = since || P .enough fed (suc (length kept)) in
       rw (step-outcome F s (S .good b) x)
-      (ap₂ ofStep (answered-refusal (F .mark s x) (F .value s x) ∙ sym (answered-refusal (P .mark fed (x ∷ kept)) (P .value fed (x ∷ kept))))
-      (shown-same (d && true) (λ e. S .same x b (and-left d true e))))
+      (ap₂ ofStep (marked-accepted (F .mark s x) (F .value s x) ∙ sym (marked-accepted (P .mark fed (x ∷ kept)) (P .value fed (x ∷ kept))))
+      (shown-same (d && true) (λ e. S .same x b (both d true e .0))))
   call-seen {since} {kept} {s} (block input output) b = rw (block-outcome F s (S .good b) input output) (block-seen (isShort input output) input output b)
   call-seen {since} {kept} {s} reset b = rw (reset-outcome F s (S .good b))
 

@@ -12,10 +12,30 @@ use lib.Seq.{drop-cons, take-suc-set, drop-set-lt, drop-drop, take-at, drop-at}
 use borrow.Author.Tests.{ltb-false, lt-ltb, le-ltb}
 use Rattle.runs.specs.Refusals.{orderRefused, ShortOutput}
 use lib.Ieee.{Float, nan}
-use Rattle.runs.specs.Runs.{Answer, Step, refused, marked, isClouded, numberOf, cloudedIn, placed, written, Filter, Reset, Block, refusedBlock, Fresh}
-use Rattle.runs.specs.Runs.{answer, step, reset, answers, after, block}
+use Rattle.runs.specs.Runs.{Answer, Step, refused, marked, isClouded, numberOf, refusalOf, cloudedIn, placed, written, Filter, Reset, Block, refusedBlock}
+use Rattle.runs.specs.Runs.{Fresh, answer, step, reset, answers, after, block}
+
+-- ---- an answer with a mark
+pub number-marked : (b : Bool) (y : Float) → numberOf (marked b y) ≡ y
+number-marked true y = refl
+number-marked false y = refl
+
+pub clouded-marked : (b : Bool) (y : Float) → isClouded (marked b y) ≡ b
+clouded-marked true y = refl
+clouded-marked false y = refl
+
+pub placed-marked : (b : Bool) (y old : Float) → placed (marked b y) old ≡ y
+placed-marked true y old = refl
+placed-marked false y old = refl
+
+pub marked-accepted : (b : Bool) (y : Float) → refusalOf (marked b y) ≡ 0
+marked-accepted true y = refl
+marked-accepted false y = refl
 
 module _ (F : Filter) (s : F .State) where
+  pub answer-is : (x : Float) {y : Float} {m : Bool} (b : Bool) → y ≡ F .value s x → m ≡ F .mark s x → m ≡ b → marked b y ≡ answer F s x
+  answer-is x b v k e = ap₂ marked (sym e ∙ k) v
+
   pub step-refused : (x : Float) → F .check s ≡ false → record { answer = refused (F .refusal); state = s } ≡ step F s x
   unfolding step
   step-refused x h = rw h
@@ -94,10 +114,6 @@ pub record Running (F : Filter) (s₀ : F .State) (input output₀ : List Float)
   pub places : take i output ++ written (answers F s (drop i input)) (drop i output) ≡ written (answers F s₀ input) output₀
   pub same : length output ≡ length output₀
 
-placed-marked : (b : Bool) (y old : Float) → placed (marked b y) old ≡ y
-placed-marked true y old = refl
-placed-marked false y old = refl
-
 tallied-few : (b : Bool) (n i : ℕ) → n ≤ i → tallied b n ≤ i + 1
 tallied-few true n i h = omega arith
 tallied-few false n i h = omega arith
@@ -154,14 +170,6 @@ module _ (F : Filter) (keeps : (s : F .State) (x : Float) → F .check s ≡ tru
         let m : clouded ≡ cloudedIn (answers F s₀ input) = sym (add-zero clouded) ∙ (rw z at (p .count)) in
         let o : output ≡ written (answers F s₀ input) output₀ = sym (take-append-drop i output) ∙ (rw z at (p .places)) in
         rw (e, le-ltb (length output₀) (length input) k, ← l, ← m, ← o)
-
-number-marked : (b : Bool) (y : Float) → numberOf (marked b y) ≡ y
-number-marked true y = refl
-number-marked false y = refl
-
-clouded-marked : (b : Bool) (y : Float) → isClouded (marked b y) ≡ b
-clouded-marked true y = refl
-clouded-marked false y = refl
 
 -- what a step of a good record returns, part by part
 pub step-parts : (F : Filter) (s : F .State) (x : Float) {a : Answer} {s′ : F .State} → F .check s ≡ true → record { answer = a; state = s′ } ≡ step F s x

@@ -11,10 +11,7 @@ use Rattle.runs.specs.Refusals.{Accepted, ShortOutput, BadCall}
 use Rattle.runs.specs.Runs.{Filter, Answer, Step, Reset, Block, refused, marked, refusalOf, refusedBlock, answer, step, reset, answers, after, cloudedIn}
 use Rattle.runs.specs.Runs.{written, block}
 use Rattle.runs.specs.Lent.{lentRefusal, lentStep, lentReset, lentBlock}
-
-marked-accepted : (b : Bool) (y : Float) → refusalOf (marked b y) ≡ 0
-marked-accepted true y = refl
-marked-accepted false y = refl
+use Rattle.runs.proofs.Laws.{marked-accepted}
 
 module _ (F : Filter) (fits : F .State → Bool) (s : F .State) where
   -- what is refused by no number fits and passes the check

@@ -1,4 +1,6 @@
--- The proofs that belong to no one function. Laws: of a step, a reset and a block. Lent: of records lent as slices. Forgetting: the forgetting rule.
+-- The proofs that belong to no one function. Laws: of a step, a reset and a block. Lent: of records lent as slices. Forgetting: the forgetting rule. Scan: of
+-- samples that are not finite.
 pub mod Laws
 pub mod Lent
 pub mod Forgetting
+pub mod Scan

@@ -1,7 +1,10 @@
-// What running has in common, whatever the filter: the answer to a sample, and the refusal numbers. What a step, a
+// What running has in common, whatever the filter: the answer to a sample, the refusal numbers, and whether samples are finite. What a step, a
 // block and a reset are, for any filter, width and capacity, stands in specs/.
 ghost use mathlib.Core.Path.{_≡_};
-ghost use Rattle.runs.specs.Runs.{numberOf, isClouded, refusalOf};
+ghost use mathlib.Core.Bool.{cond};
+ghost use lib.ListN.{take};
+ghost use lib.Ieee.Scale.{finite};
+ghost use Rattle.runs.specs.Runs.{numberOf, isClouded, refusalOf, notAllFinite};
 ghost use Rattle.runs.specs.View.{answerView};
 
 // 01's refusal numbers, from the input; the first four under 003's names.
@@ -65,4 +68,26 @@ pub fn refusal_of(answer: Answer) -> u8
         Answer::Clouded(_) => 0,
         Answer::Refused(n) => n,
     }
+}
+
+// One where x is an infinity or a NaN, else none.
+fn not_finite(x: f64) -> usize
+    ensures { λ r. ⌜ r ≡ cond (finite x) 0 1 ⌝ }
+{
+    if scalar::is_finite(x) { 0 } else { 1 }
+}
+
+// Whether one of the first n samples, or of all where they are fewer, is an infinity or a NaN: such samples are counted,
+// with no way out of the loop, so that the compiler can look at several at a time.
+pub fn not_all_finite(samples: &[f64], n: usize) -> bool
+    ensures { λ r. ⌜ r ≡ notAllFinite (take n (now (samples .entry))) ⌝ }
+{
+    let end = if n < samples.len() { n } else { samples.len() };
+    let mut count: usize = 0;
+    let mut i: usize = 0;
+    while i < end {
+        count += not_finite(samples[i]);
+        i += 1;
+    }
+    count > 0
 }

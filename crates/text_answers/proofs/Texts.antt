@@ -1,29 +1,20 @@
 -- Loops that put bytes and digits into an output, the fewest digits of a number, and the text of a float.
 use mathlib.Core.Path.{_≡_, refl, sym, ap₂, _∙_}
-use mathlib.Core.Bool.{Bool, true, false, not}
+use mathlib.Core.Bool.{true, false}
 use mathlib.Core.List.{List, [], _∷_, _++_, append-assoc}
 use Prim.Native.Nat.{ℕ, zero, suc, _+_, _-_, _*_, _/_, _%_, _^_, _<_, _≤_}
 use native.Mathlib.Numerals.{add-one}
 use native.Mathlib.Nat.{add-zero, add-suc, not-suc-le-zero, one-mul, pow-suc, div-div-eq-div-mul, le-div-iff-mul-le, div-lt-iff-lt-mul}
 use native.Mathlib.Omega.{arith}
-use lib.Dec.{T, leb, leb→le, nleb→lt}
-use lib.ListN.{length, take, drop, getD, set, length-set, length-append, take-append-drop}
-use lib.Seq.{drop-cons, drop-length, lt-length-set, take-suc-set, take-set-le, drop-set-lt, getD-set-same}
+use lib.Dec.{leb}
+use lib.ListN.{length, take, drop, set, length-set, length-append, take-append-drop}
+use lib.Seq.{drop-cons, lt-length-set, take-set-le, drop-set-lt, getD-set-same}
 use lib.Ieee.{Float, ne, isNan, toBits, binary64}
 use lib.Ieee.Bits.{is-false}
-use borrow.Author.Tests.{le-leb, lt-leb}
+use borrow.Author.Tests.{le-leb}
+use Rattle.lists.proofs.Overwriting.{Overwriting, overwrite-done}
 use Rattle.text_answers.specs.Texts.{put, placeAfter, glyph, digitsOf, floatText, Fewest}
 use Rattle.ieee.proofs.Patterns.{differs-nan, same-number}
-
--- ---- whether there is room: the test that cannot wrap
-pub room : (length at n : ℕ) → at ≤ length → leb n (length - at) ≡ leb (at + n) length
-room length at n h = go (leb n (length - at)) (leb→le n (length - at)) (nleb→lt n (length - at))
-  where
-    go : (t : Bool) → (T t → n ≤ length - at) → (T (not t) → length - at < n) → t ≡ leb (at + n) length
-    go true f g = let l = f tt in
-        sym (le-leb (at + n) length (omega arith))
-    go false f g = let l = g tt in
-        sym (lt-leb (at + n) length (omega arith))
 
 -- ---- what a function that puts a text returns, and its output: where the text does not fit, and where it does
 pub left-out : (output : List ℕ) (at : ℕ) (text : List ℕ) (n : ℕ) → length text ≡ n → leb (at + n) (length output) ≡ false
@@ -36,29 +27,11 @@ pub put-whole : (output₀ : List ℕ) (at : ℕ) (text : List ℕ) (n : ℕ) {o
 unfolding put placeAfter
 put-whole output₀ at text n e h p = (rw (e, le-leb (at + n) (length output₀) h) p, rw (le-leb (at + n) (length output₀) h))
 
--- ---- the loop that puts bytes: the first i are in place, and the others are still to come
-abbrev pub Putting : List ℕ → ℕ → List ℕ → List ℕ → ℕ → Type 0
-Putting output₀ at text output i =
-    (length output ≡ length output₀) × (take (at + i) output ++ (drop i text ++ drop (at + length text) output)
-    ≡ take at output₀ ++ (text ++ drop (at + length text) output₀))
-
-pub put-start : (output : List ℕ) (at : ℕ) (text : List ℕ) → Putting output at text output 0
-put-start output at text = (refl, rw (add-zero))
-
-pub put-turn : (output₀ : List ℕ) (at : ℕ) (text output : List ℕ) (i : ℕ) → i < length text → at + length text ≤ length output₀
-    → Putting output₀ at text output i → Putting output₀ at text (set output (at + i) (getD text i 0)) (i + 1)
-put-turn output₀ at text output i h k p =
-    let l : at + i < length output = omega arith in
-    let m : at + i < at + length text = omega arith in
-    let s : at + (i + 1) ≡ suc (at + i) = omega arith in
-    let t = take-suc-set output (at + i) (getD text i 0) l in
-    let d = drop-cons text i 0 h in
-    (length-set output (at + i) (getD text i 0) ∙ p .0, rw (s, add-one, t, drop-set-lt, append-assoc) (rw d at (p .1)))
-
-pub put-done : (output₀ : List ℕ) (at : ℕ) (text output : List ℕ) (i : ℕ) → i ≡ length text → at + length text ≤ length output₀
-    → Putting output₀ at text output i → (output ≡ put output₀ at text) × (at + i ≡ placeAfter output₀ at (length text))
-put-done output₀ at text output i e k p =
-    rw e (put-whole output₀ at text (length text) refl k (sym (take-append-drop (at + length text) output) ∙ (rw (e, drop-length) at (p .1))))
+-- ---- the loop that puts bytes
+pub put-done : {output₀ : List ℕ} {at : ℕ} {text output : List ℕ} (i : ℕ) → length text ≤ i → Overwriting output₀ at text (length text) output i
+    → (output ≡ put output₀ at text) × (at + i ≡ placeAfter output₀ at (length text))
+put-done {output₀} {at} {text} i h p = let e : i ≡ length text = omega (arith, p .within) in
+    rw e (put-whole output₀ at text (length text) refl (p .room) (overwrite-done i h p))
 
 -- ---- the loop that puts digits, the last one first: the i digits of what is left are still to come
 pub length-digits : (base k n : ℕ) → length (digitsOf base k n) ≡ k

@@ -1,26 +1,15 @@
 // The bytes of an answer, put into a lent output from a place on. Each function returns the place after its text, which
 // lies past the output's end where the text did not fit; then the output is as it was.
 ghost use mathlib.Core.Path.{_≡_};
-ghost use Prim.Native.Nat.{_+_, _≤_, _<_};
-ghost use lib.Dec.{leb};
+ghost use Prim.Native.Nat.{_≤_, _<_};
 ghost use lib.ListN.{length};
 ghost use Rattle.text_answers.specs.Texts.{put, placeAfter, glyph as Texts·glyph, digitsOf, floatText, Fewest, CountPut};
-
-// Whether n bytes fit into `length` places from a place on.
-fn has_room(length: usize, at: usize, n: usize) -> bool
-    ensures { λ r. ⌜ r ≡ leb (at + n) length ⌝ }
-{
-    if at > length {
-        return false;
-    }
-    n <= length - at
-}
 
 pub fn put_bytes(output: &mut [u8], at: usize, text: &[u8]) -> usize
     ensures { λ r. ⌜ (now (output .exit) ≡ put (now (output .entry)) at (now (text .entry)))
         × (r ≡ placeAfter (now (output .entry)) at (length (now (text .entry)))) ⌝ }
 {
-    if !has_room(output.len(), at, text.len()) {
+    if !lists::within(at, text.len(), output.len()) {
         return output.len() + 1;
     }
     let mut i: usize = 0;
@@ -43,7 +32,7 @@ fn put_digits(output: &mut [u8], at: usize, base: u64, k: usize, n: u64) -> usiz
     requires { ⌜ (0 < base) × (base ≤ 16) ⌝ }
     ensures { λ r. ⌜ (now (output .exit) ≡ put (now (output .entry)) at (digitsOf base k n)) × (r ≡ placeAfter (now (output .entry)) at k) ⌝ }
 {
-    if !has_room(output.len(), at, k) {
+    if !lists::within(at, k, output.len()) {
         return output.len() + 1;
     }
     let mut i = k;

@@ -1,5 +1,5 @@
 -- A decimal's digits over its power of ten, and the one division: the nearest double.
-use Prim.Native.Nat.{ℕ, zero, suc, _+_, _*_, _^_, _<_, _≤_}
+use Prim.Native.Nat.{ℕ, zero, suc, _*_, _^_, _<_, _≤_}
 use mathlib.Core.Path.{_≡_, refl, sym, ap, _∙_, subst}
 use mathlib.Core.Bool.{Bool, true, false, _&&_, cond, false≢true}
 use mathlib.Core.List.{List, _++_}
@@ -17,6 +17,7 @@ use borrow.Author.Tests.{leb-true, ltb-true}
 use Rattle.ieee.specs.Nearest.{Nearest, fraction, midNum, midDen}
 use Rattle.ieee.specs.Arithmetic.{Quotient}
 use Rattle.ieee.proofs.Arithmetic.{div-correct}
+use Rattle.lists.proofs.Tests.{both}
 use Rattle.text_decimals.specs.Decimals.{valueAfter, decimal}
 use Rattle.text_decimals.specs.declared.FloatToken.{FloatToken}
 use Rattle.text_decimals.specs.declared.FloatToken.the-variants.{Number, NotANumber}
@@ -79,10 +80,6 @@ over-power (fin s m e) v k h l =
     (div-correct binary64 (fin false m e) (fin false P (pos k))))))
 
 -- ---- a decimal that is accepted
-and-both : (a b : Bool) → (a && b) ≡ true → (a ≡ true) × (b ≡ true)
-and-both true b e = (refl, e)
-and-both false b e = absurd (false≢true e)
-
 numberOr : Float → FloatToken → Float
 numberOr d (Number x) = x
 numberOr d NotANumber = d
@@ -109,7 +106,7 @@ decimal-nearest whole places x = go (leb 1 (length whole) && (ltb digits (10 ^ 1
     go : (b : Bool) → (leb 1 (length whole) && (ltb digits (10 ^ 15) && leb k 22)) ≡ b → cond b (Number y) NotANumber ≡ Number x
         → Nearest binary64 (fraction digits (10 ^ k)) false x
     go true e h =
-        let c = and-both (ltb digits (10 ^ 15)) (leb k 22) (and-both (leb 1 (length whole)) (ltb digits (10 ^ 15) && leb k 22) e .1) in
+        let c = both (ltb digits (10 ^ 15)) (leb k 22) (both (leb 1 (length whole)) (ltb digits (10 ^ 15) && leb k 22) e .1) in
         let small : digits < 10 ^ 15 = ltb-true digits (10 ^ 15) (c .0) in
         let few : k ≤ 22 = leb-true k 22 (c .1) in
         subst (λ (z : Float). Nearest binary64 (fraction digits (10 ^ k)) false z) (ap (numberOr nan) h)

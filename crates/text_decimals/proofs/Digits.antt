@@ -1,17 +1,18 @@
 -- What digits write: the loops over them, and how large it can be.
 use mathlib.Core.Path.{_≡_, refl, sym, ap, _∙_}
-use mathlib.Core.Bool.{Bool, true, false, _&&_, cond, and-false, false≢true}
+use mathlib.Core.Bool.{Bool, true, false, cond, and-false}
 use mathlib.Core.List.{List, [], _∷_, _++_}
 use Prim.Native.Nat.{ℕ, zero, suc, _+_, _-_, _*_, _^_, _<_, _≤_, min}
 use native.Mathlib.Nat.{le-trans, le-of-eq, add-comm, add-mul, mul-suc, mul-le-mul-right, mul-assoc, le-mul-of-pos-right, one-le-pow, pow-succ'}
-use native.Mathlib.Numerals.{add-one}
 use native.Mathlib.Omega.{arith}
 use lib.Dec.{leb}
-use lib.ListN.{length, getD, drop, drop-of-length-le, length-drop}
+use lib.ListN.{length, getD, drop, length-drop}
 use lib.Seq.{drop-cons}
 use lib.IntN.{pos}
 use lib.Ieee.{Float, binary64, ofInt, div}
 use borrow.Author.Tests.{leb-true, le-leb, lt-leb, lt-ltb, le-ltb, eq-eqb, ne-eqb}
+use Rattle.lists.proofs.Folding.{fold-turn, fold-done}
+use Rattle.lists.proofs.Tests.{both}
 use Rattle.text_tokens.specs.Tokens.{between, isDigit, inClass, leading, runEnd}
 use Rattle.text_tokens.specs.declared.Class.the-variants.{Digit}
 use Rattle.text_decimals.specs.Decimals.{all, digit, valueAfter, countOf, decimal}
@@ -19,21 +20,13 @@ use Rattle.text_decimals.specs.declared.CountToken.the-variants.{Count, 
 use Rattle.text_decimals.specs.declared.FloatToken.the-variants.{Number, NotANumber}
 
 -- ---- a digit is at most 15
-both-right : (a b : Bool) → (a && b) ≡ true → b ≡ true
-both-right true b e = e
-both-right false b e = absurd (false≢true e)
-
-both-left : (a b : Bool) → (a && b) ≡ true → a ≡ true
-both-left true b e = refl
-both-left false b e = e
-
 pub at-least : (lo hi b : ℕ) → between lo hi b ≡ true → lo ≤ b
 unfolding between
-at-least lo hi b e = leb-true lo b (both-left (leb lo b) (leb b hi) e)
+at-least lo hi b e = leb-true lo b (both (leb lo b) (leb b hi) e .0)
 
 in-between : (lo hi b : ℕ) → between lo hi b ≡ true → b ≤ hi
 unfolding between
-in-between lo hi b e = leb-true b hi (both-right (leb lo b) (leb b hi) e)
+in-between lo hi b e = leb-true b hi (both (leb lo b) (leb b hi) e .1)
 
 pub digit-small : (b : ℕ) → digit b ≤ 15
 unfolding digit
@@ -103,13 +96,16 @@ Capping n ds value i = (value ≤ limit) × (min (valueAfter 10 value (drop i ds
 
 pub cap-turn : (n : ℕ) (ds : List ℕ) (value i : ℕ) {v : ℕ} → i < length ds → v ≡ min (value * 10 + digit (getD ds i 0)) limit → Capping n ds value i
     → Capping n ds v (i + 1)
+unfolding valueAfter
 cap-turn n ds value i {v} h e r =
     let w = value * 10 + digit (getD ds i 0) in
-    (omega arith, rw (add-one, e) (capped w (drop (suc i) ds) ∙ ap (λ (z : ℕ). min z limit) (sym (value-cons 10 value ds i h)) ∙ r .1))
+    let same : (rest : List ℕ) → min (valueAfter 10 w rest) limit ≡ min (valueAfter 10 v rest) limit = λ rest. rw e (sym (capped w rest)) in
+    (omega arith, fold-turn (λ xs. min (valueAfter 10 value xs) limit) ds i (λ xs. min (valueAfter 10 v xs) limit) 0 h same (r .1))
 
 pub cap-done : (n : ℕ) (ds : List ℕ) (value i : ℕ) → length ds ≤ i → Capping n ds value i → value ≡ min (valueAfter 10 n ds) limit
 unfolding valueAfter
-cap-done n ds value i h r = let e : min value limit ≡ min (valueAfter 10 n ds) limit = rw (drop-of-length-le ds {i = i} h) at (r .1) in omega (arith, r .0, e)
+cap-done n ds value i h r = let e : min value limit ≡ min (valueAfter 10 n ds) limit = fold-done (λ xs. min (valueAfter 10 value xs) limit) ds i h (r .1) in
+    omega (arith, r .0, e)
 
 -- ---- runs of digits
 pub digits-run : (token : List ℕ) (from : ℕ) → runEnd (inClass Digit) token from ≡ from + leading isDigit (drop from token)

@@ -11,6 +11,7 @@ use lib.Seq.{drop-cons, take-all}
 use lib.Dec.{eqb}
 use lib.Ieee.{binary64, ofBits}
 use borrow.Author.Tests.{le-leb, lt-leb, eq-eqb, ne-eqb}
+use Rattle.lists.proofs.Folding.{fold-turn, fold-done}
 use Rattle.text_tokens.specs.Tokens.{isDigit, isHexDigit, inClass, leading, runEnd}
 use Rattle.text_tokens.specs.declared.Class.the-variants.{Digit, HexDigit}
 use Rattle.text_decimals.specs.Decimals.{all, digit, valueAfter, decimal}
@@ -33,11 +34,12 @@ hex-fits ds value i l h r =
     omega (arith, m, e, s)
 
 pub hex-turn : (ds : List ℕ) (value i : ℕ) → i < length ds → Reading ds value i → Reading ds (value * 16 + digit (getD ds i 0)) (i + 1)
-hex-turn ds value i h r = rw (add-one) (sym (value-cons 16 value ds i h) ∙ r)
+unfolding valueAfter
+hex-turn ds value i h r = fold-turn (valueAfter 16 value) ds i (valueAfter 16 (value * 16 + digit (getD ds i 0))) 0 h (λ rest. refl) r
 
 pub hex-done : (ds : List ℕ) (value i : ℕ) → length ds ≤ i → Reading ds value i → value ≡ valueAfter 16 0 ds
 unfolding valueAfter
-hex-done ds value i h r = rw (drop-of-length-le ds {i = i} h) at r
+hex-done ds value i h r = fold-done (valueAfter 16 value) ds i h r
 
 -- ---- runs of hexadecimal digits
 pub hex-run : (token : List ℕ) (from : ℕ) → runEnd (inClass HexDigit) token from ≡ from + leading isHexDigit (drop from token)

@@ -1,15 +1,15 @@
 -- Runs of bytes of a kind, and bytes compared one by one.
 use mathlib.Core.Path.{_≡_, refl, sym, ap, _∙_}
-use mathlib.Core.Bool.{Bool, true, false, _&&_, cond, and-false}
+use mathlib.Core.Bool.{Bool, true, false, _&&_, and-false}
 use mathlib.Core.List.{List, [], _∷_}
 use Prim.Native.Nat.{ℕ, suc, _+_, _<_, _≤_}
-use native.Mathlib.Nat.{add-zero}
 use native.Mathlib.Numerals.{add-one}
 use native.Mathlib.Omega.{arith}
 use lib.Dec.{eqb}
 use lib.ListN.{length, getD, drop, drop-of-length-le}
 use lib.Seq.{drop-cons}
 use borrow.Author.Tests.{eq-eqb, ne-eqb}
+use Rattle.lists.proofs.Folding as Folding
 use Rattle.text_tokens.specs.Tokens.{leading, runEnd, sameBytes}
 
 module _ (p : ℕ → Bool) (bytes : List ℕ) where
@@ -19,20 +19,15 @@ module _ (p : ℕ → Bool) (bytes : List ℕ) where
 
   pub run-turn : (from i : ℕ) → i < length bytes → p (getD bytes i 0) ≡ true → Running from i → Running from (i + 1)
   unfolding runEnd leading
-  run-turn from i h e r = let d = drop-cons bytes i 0 h in rw (add-one) (omega
-      (arith, sym (ap (λ (l : List ℕ). i + leading p l) d) ∙ r, ap (λ (b : Bool). cond b (suc (leading p (drop (suc i) bytes))) 0) e))
+  run-turn from i = Folding.run-turn p (leading p) refl (λ x xs. refl) bytes i 0
 
   pub run-found : (from i : ℕ) → i < length bytes → p (getD bytes i 0) ≡ false → Running from i → i ≡ runEnd p bytes from
   unfolding runEnd leading
-  run-found from i h e r = let d = drop-cons bytes i 0 h in omega (
-    arith,
-    sym (ap (λ (l : List ℕ). i + leading p l) d) ∙ r,
-    ap (λ (b : Bool). cond b (suc (leading p (drop (suc i) bytes))) 0) e,
-  )
+  run-found from i = Folding.run-found p (leading p) refl (λ x xs. refl) bytes i 0
 
   pub run-done : (from i : ℕ) → length bytes ≤ i → Running from i → i ≡ runEnd p bytes from
   unfolding runEnd leading
-  run-done from i h r = let d = drop-of-length-le bytes {i = i} h in sym (add-zero i) ∙ sym (ap (λ (l : List ℕ). i + leading p l) d) ∙ r
+  run-done from i = Folding.run-done p (leading p) refl (λ x xs. refl) bytes i 0
 
 -- ---- bytes compared: those before place i agree
 module _ (a b : List ℕ) where

@@ -4,7 +4,7 @@ use mathlib.Core.Bool.{true}
 use mathlib.Core.List.{_∷_, []}
 use lib.Dec.{eqb}
 use borrow.Author.Tests.{not-true, not-false, eq-eqb}
-use Rattle.c_layout.proofs.Laws.{cond-true}
+use Rattle.lists.proofs.Tests.{cond-true}
 use lib.ListN.{length}
 use Rattle.limits.specs.Limits.{maxTaps}
 use Rattle.fir.specs.View.{madeView}

@@ -4,7 +4,7 @@ use mathlib.Core.List.{_∷_, []}
 use lib.Dec.{eqb}
 use lib.ListN.{length}
 use borrow.Author.Tests.{eq-eqb, ne-eqb}
-use Rattle.c_layout.proofs.Laws.{cond-true, cond-false}
+use Rattle.lists.proofs.Tests.{cond-true, cond-false}
 use borrow.Author.Needs.{needs}
 use Rattle.c_layout.proofs.put_counts.Statement.{statement}
 use Rattle.c_layout.proofs.put_counts.Tie as tie

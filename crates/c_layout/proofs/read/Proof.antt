@@ -4,7 +4,8 @@ use mathlib.Core.Bool.{true}
 use borrow.Author.Tests.{not-true, not-false}
 use Rattle.cascade_theory.specs.Cascade.{blankCascade}
 use Rattle.c_layout.specs.Layout.{cascadePlaces, cascadeAt}
-use Rattle.c_layout.proofs.Laws.{places-lengths, cond-true, cond-false}
+use Rattle.lists.proofs.Tests.{cond-true, cond-false}
+use Rattle.c_layout.proofs.Laws.{places-lengths}
 use borrow.Author.Needs.{needs}
 use Rattle.c_layout.proofs.read.Statement.{statement}
 use Rattle.c_layout.proofs.read.Tie as tie

@@ -4,7 +4,8 @@ use mathlib.Core.Bool.{true}
 use borrow.Author.Tests.{not-true, not-false}
 use Rattle.cascade.specs.View.{cascadeView}
 use Rattle.c_layout.specs.Layout.{cascadePlaces, cascadeNumbers, cascadeCounts}
-use Rattle.c_layout.proofs.Laws.{places-lengths, cond-true, cond-false}
+use Rattle.lists.proofs.Tests.{cond-true, cond-false}
+use Rattle.c_layout.proofs.Laws.{places-lengths}
 use borrow.Author.Needs.{needs}
 use Rattle.c_layout.proofs.write.Statement.{statement}
 use Rattle.c_layout.proofs.write.Tie as tie

@@ -21,7 +21,7 @@ use Rattle.fir_theory.proofs.Fresh.{ready-made-fresh}
 use Rattle.fir.specs.View.{FreshTaps}
 use Rattle.scalar.specs.Operators.{_⊖_, _⊗_}
 use Rattle.design_checks.specs.Checks.{validateParams, validateChebyshev, validateBand, validateFir}
-use Rattle.design_checks.specs.Lists.{upTo}
+use Rattle.lists.specs.Lists.{upTo}
 use Rattle.design_fir.specs.Fir.{codeOf, firTaps, firLp}
 use Rattle.design_fir.specs.declared.WindowType.{WindowType}
 use Rattle.design_fir.proofs.Fresh.{fir-fresh}

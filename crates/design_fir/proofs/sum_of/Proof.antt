@@ -1,16 +1,18 @@
 -- `design_fir::sum_of` meets its contract.
 use Prim.Native.Nat.{_≤_, _-_}
-use mathlib.Core.Path.{refl}
+use mathlib.Core.Path.{_≡_, refl}
 use native.Mathlib.Omega.{arith}
-use lib.ListN.{take}
-use lib.Ieee.{ofBits}
+use lib.ListN.{take, drop}
+use lib.Ieee.{nan, ofBits}
 use borrow.Author.Needs.{needs}
-use Rattle.design_fir.proofs.Taps.{Totalling, total-turn, total-done}
+use Rattle.limits.specs.Zero.{plusZero}
+use Rattle.lists.proofs.Folding.{front-turn, front-done}
+use Rattle.design_fir.specs.Fir.{totalFrom}
 use Rattle.design_fir.proofs.sum_of.Statement.{statement}
 use Rattle.design_fir.proofs.sum_of.Tie as tie
 
 abbrev Inv-loop : tie.InvT-loop
-Inv-loop n coeffs sum₀ i₀ sum i = (i ≤ n) × Totalling (take n coeffs) sum i
+Inv-loop n coeffs sum₀ i₀ sum i = (i ≤ n) × (totalFrom sum (drop i (take n coeffs)) ≡ totalFrom plusZero (take n coeffs))
 
 abbrev μ-loop : tie.MeasureT-loop
 μ-loop n coeffs sum₀ i₀ sum i = n - i
@@ -20,11 +22,16 @@ unfolding ofBits
 loop-holds c = (search needs, refl)
 
 loop-again : tie.Need-loop-again Inv-loop μ-loop
-loop-again c = let l = c .before in
-    (omega arith, total-turn _ _ (l .before .args .n) (l .loop .i) (omega arith) (omega arith) (l .loop .inv .1))
+unfolding totalFrom
+loop-again c = let l = c .before in (
+  omega arith,
+  front-turn (totalFrom (l .loop .sum)) _ (l .loop .i) (l .before .args .n) (totalFrom _) nan (omega arith) (omega arith) (λ rest. refl)
+      (l .loop .inv .1),
+)
 
 returns : tie.Need-returns Inv-loop μ-loop
-returns c = total-done _ _ (c .before .before .args .n) (c .before .loop .i) (omega arith) (c .before .loop .inv .1)
+unfolding totalFrom
+returns c = front-done (totalFrom _) _ (c .before .loop .i) (c .before .before .args .n) (omega arith) (c .before .loop .inv .1)
 
 pub sum-of-spec : {M : Type 1} → statement M
 sum-of-spec =

@@ -1,5 +1,5 @@
-use borrow.Author.Needs.{needs}
 -- `fir_block::count_clouded` meets its contract.
+use borrow.Author.Needs.{needs}
 use Prim.Native.Nat.{_-_}
 use mathlib.Core.Logic.{⊎-elim}
 use borrow.Author.Tests.{lt-ltb, le-ltb}

@@ -1,10 +1,11 @@
-use borrow.Author.Needs.{needs}
 -- `fir_block::finite_run` meets its contract.
 use Prim.Native.Nat.{_-_}
 use mathlib.Core.Path.{sym, _∙_}
+use native.Mathlib.Nat.{zero-add}
 use native.Mathlib.Omega.{arith}
 use borrow.Author.Tests.{not-true, not-false}
-use Rattle.fir_theory.proofs.Copies.{Finite, finite-start, finite-turn, finite-found, finite-done}
+use borrow.Author.Needs.{needs}
+use Rattle.fir_theory.proofs.Copies.{Finite, finite-turn, finite-found}
 use Rattle.fir_block.proofs.finite_run.Statement.{statement}
 use Rattle.fir_block.proofs.finite_run.Tie as tie
 
@@ -15,7 +16,7 @@ abbrev μ-loop : tie.MeasureT-loop
 μ-loop samples n i₀ i = n - i
 
 loop-holds : tie.Need-loop-holds Inv-loop μ-loop
-loop-holds c = finite-start _
+loop-holds c = zero-add _
 
 returns : tie.Need-returns Inv-loop μ-loop
 returns c = finite-found _ _ _ (omega arith) (c .before .before .before .loop-test .taken) (sym (c .before .is-finite .ensures) ∙ not-true _ (c .if1 .taken))
@@ -24,11 +25,8 @@ returns c = finite-found _ _ _ (omega arith) (c .before .before .before .loop-te
 loop-again : tie.Need-loop-again Inv-loop μ-loop
 loop-again c = finite-turn _ _ (omega arith) (sym (c .before .is-finite .ensures) ∙ not-false _ (c .if1 .left)) (c .before .before .before .before .loop .inv)
 
-returns-2 : tie.Need-returns-2 Inv-loop μ-loop
-returns-2 c = finite-done _ _ _ (c .loop-test .left) (c .before .loop .inv)
-
 pub finite-run-spec : {M : Type 1} → statement M
 finite-run-spec =
     tie.close
     (tie.spec Inv-loop μ-loop loop-holds (λ c. search needs) (λ c. omega arith) (λ c κs. search needs) returns
-    (λ c. search needs) (λ c. search needs) loop-again returns-2)
+    (λ c. search needs) (λ c. search needs) loop-again (λ c. omega arith))

@@ -1,46 +1,35 @@
 -- `fir_step::clear` meets its contract.
-use Prim.Native.Nat.{_≤_, _<_, _-_}
-use mathlib.Core.Path.{refl}
+use Prim.Native.Nat.{_<_, _-_}
+use mathlib.Core.Path.{refl, sym}
 use native.Mathlib.Omega.{arith}
-use lib.ListN.{length, replicate}
-use lib.Ieee.{ofBits}
+use lib.ListN.{length, replicate, length-replicate, getD-replicate}
+use lib.Ieee.{nan, ofBits}
 use Rattle.limits.specs.Zero.{plusZero}
-use Rattle.lists.proofs.Copies.{copy-start}
-use Rattle.fir_theory.proofs.Laws.{Clearing, clear-turn, clear-done}
+use Rattle.lists.proofs.Overwriting.{Overwriting, overwrite-start, overwrite-turn, overwrite-all}
 use Rattle.fir_step.proofs.clear.Statement.{statement}
 use Rattle.fir_step.proofs.clear.Tie as tie
 
 abbrev Inv-loop : tie.InvT-loop
-Inv-loop samples₀ i₀ samples i = (i ≤ length samples₀) × Clearing samples₀ samples i
+Inv-loop samples₀ i₀ samples i = Overwriting samples₀ 0 (replicate (length samples₀) plusZero) (length samples₀) samples i
 
 abbrev μ-loop : tie.MeasureT-loop
 μ-loop samples₀ i₀ samples i = length samples₀ - i
 
 loop-holds : tie.Need-loop-holds Inv-loop μ-loop
-loop-holds c = let s = c .args .samples .now in (omega arith, copy-start (replicate (length s) plusZero) s s refl)
-
-loop-less : tie.Need-loop-less Inv-loop μ-loop
-loop-less c = omega (arith, c .before .loop .inv)
+loop-holds c = overwrite-start 0 (length-replicate _ plusZero) (omega arith)
 
 loop-again : tie.Need-loop-again Inv-loop μ-loop
 unfolding ofBits
 loop-again c =
     let l = c .before .loop in
-    let s = c .before .before .args .samples .now in
-    let h : l .i < length s = omega (arith, l .inv) in
-    (omega arith, clear-turn s (l .samples) (l .i) h (l .inv .1))
-
-same-length : tie.Need-same-length Inv-loop μ-loop
-same-length c = c .before .loop .inv .1 .1
+    let h : l .i < length (c .before .before .args .samples .now) = omega arith in
+    overwrite-turn _ _ nan (omega arith) h (sym (getD-replicate _ _ plusZero nan h)) (l .inv)
 
 returns : tie.Need-returns Inv-loop μ-loop
-returns c =
-    let l = c .before .loop in
-    let s = c .before .before .args .samples .now in
-    clear-done s (l .samples) (l .i) (omega (arith, l .inv)) (l .inv .1)
+returns c = overwrite-all _ (omega arith) refl (c .before .loop .inv)
 
 pub clear-spec : {M : Type 1} → statement M
 clear-spec =
     tie.close
-    (tie.spec Inv-loop μ-loop loop-holds (λ c. omega arith) (λ c. omega arith) (λ c. omega arith) loop-less
-    loop-again same-length returns)
+    (tie.spec Inv-loop μ-loop loop-holds (λ c. omega arith) (λ c. omega arith) (λ c. omega arith) (λ c. omega arith)
+    loop-again (λ c. omega arith) returns)

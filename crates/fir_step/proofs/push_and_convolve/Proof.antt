@@ -1,17 +1,16 @@
 -- `fir_step::push_and_convolve` meets its contract.
-use Prim.Native.Nat.{_≤_, _-_}
-use mathlib.Core.Path.{_≡_, refl}
+use Prim.Native.Nat.{_-_}
+use mathlib.Core.Path.{refl}
 use native.Mathlib.Omega.{arith}
 use mathlib.Core.List.{_∷_}
 use lib.ListN.{take}
 use lib.Ieee.{binary64, ofBits}
-use borrow.Author.Needs.{needs}
-use Rattle.fir_theory.proofs.Laws.{Pushing, push-start, push-turn, take-pushed, Summing, sum-turn, sum-done}
+use Rattle.fir_theory.proofs.Laws.{Pushing, push-start, push-turn, push-done, take-pushed, Summing, sum-turn, sum-done}
 use Rattle.fir_step.proofs.push_and_convolve.Statement.{statement}
 use Rattle.fir_step.proofs.push_and_convolve.Tie as tie
 
 abbrev Inv-loop : tie.InvT-loop
-Inv-loop taps samples₀ n x acc₀ carried₀ i₀ samples acc carried i = (i ≤ n) × Pushing samples₀ x samples carried i
+Inv-loop taps samples₀ n x acc₀ carried₀ i₀ samples acc carried i = Pushing n samples₀ x samples carried i
     × Summing binary64 taps (take n (x ∷ samples₀)) acc i
 
 abbrev μ-loop : tie.MeasureT-loop
@@ -19,25 +18,23 @@ abbrev μ-loop : tie.MeasureT-loop
 
 loop-holds : tie.Need-loop-holds Inv-loop μ-loop
 unfolding ofBits
-loop-holds c = (search needs, push-start _ _, refl)
+loop-holds c = (push-start _ _ _ (omega arith), refl)
 
 loop-again : tie.Need-loop-again Inv-loop μ-loop
 loop-again c = let l = c .before .before .before in
     let a = l .before .args in
-    let p = l .loop .inv .1 in (
-      omega arith,
-      push-turn _ _ _ _ _ (omega arith) p,
+    let p = l .loop .inv .0 in (
+      push-turn _ _ _ _ (omega arith) p,
       rw (p .1) (sum-turn _ (a .taps .now) (a .x ∷ a .samples .now) _ (a .n) (l .loop .i) (omega arith)
-          (omega arith) (omega arith) (l .loop .inv .2)),
+          (omega arith) (omega arith) (l .loop .inv .1)),
     )
 
 returns : tie.Need-returns Inv-loop μ-loop
 returns c = let l = c .before in
-    let a = l .before .args in
-    let e : l .loop .i ≡ a .n = omega arith in (
-      rw (← e) (l .loop .inv .1 .0),
+    let a = l .before .args in (
+      push-done _ _ _ _ (omega arith) (l .loop .inv .0),
       rw (take-pushed (a .n) (a .n) (a .x) (a .samples .now) (omega arith) (omega arith))
-          (sum-done _ _ _ _ (a .n) (l .loop .i) (omega arith) (l .loop .inv .2)),
+          (sum-done _ _ _ _ (a .n) (l .loop .i) (omega arith) (l .loop .inv .1)),
     )
 
 pub push-and-convolve-spec : {M : Type 1} → statement M

@@ -1,9 +1,11 @@
 -- `cascade::Cascade::skewable` meets its contract: each test that fails is a fact of `Skewable`.
-use mathlib.Core.Path.{sym, _∙_}
+use mathlib.Core.Path.{sym, ap, _∙_}
 use mathlib.Core.Bool.{false≢true}
 use native.Mathlib.Omega.{arith}
+use lib.Seq.{take-length}
 use borrow.Author.Tests.{not-true}
 use borrow.Author.Needs.{needs}
+use Rattle.runs.specs.Runs.{notAllFinite}
 use Rattle.cascade.proofs.Cascade.skewable.Statement.{statement}
 use Rattle.cascade.proofs.Cascade.skewable.Tie as tie
 
@@ -26,7 +28,7 @@ returns-5 c = λ e. let d = c .before in
       alone = d .before .before .if2 .left;
       clear = d .before .if3 .left;
       enough = d .if4 .left;
-      finite = sym (c .not-all-finite .ensures) ∙ not-true _ e;
+      finite = ap notAllFinite (sym (take-length _)) ∙ sym (c .not-all-finite .ensures) ∙ not-true _ e;
     }
 
 pub skewable-spec : {M : Type 1} → statement M

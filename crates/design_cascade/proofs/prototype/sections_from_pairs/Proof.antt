@@ -7,7 +7,7 @@ use Prim.Native.Nat.{ℕ, _≤_, _-_, _/_}
 use native.Mathlib.Omega.{arith}
 use borrow.Author.Needs.{needs}
 use Rattle.sections.specs.View.{sectionView}
-use Rattle.design_checks.specs.Lists.{upTo}
+use Rattle.lists.specs.Lists.{upTo}
 use Rattle.design_cascade.specs.Design.{padded}
 use Rattle.design_cascade.specs.Prototype.{pairOf}
 use Rattle.design_cascade.proofs.Places.{upTo-none, upTo-turn}

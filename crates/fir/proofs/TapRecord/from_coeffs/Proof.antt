@@ -1,16 +1,17 @@
 -- `fir::TapRecord::from_coeffs` meets its contract.
-use Prim.Native.Nat.{_≤_, _-_}
+use Prim.Native.Nat.{_-_}
+use mathlib.Core.Path.{refl}
 use native.Mathlib.Omega.{arith}
+use lib.Ieee.{nan}
 use Rattle.fir_theory.specs.Fir.{zeros}
 use Rattle.limits.specs.Limits.{maxTaps}
-use borrow.Author.Needs.{needs}
-use Rattle.lists.proofs.Copies.{Copying, copy-start, copy-turn}
+use Rattle.lists.proofs.Overwriting.{Overwriting, overwrite-start, overwrite-turn}
 use Rattle.fir_theory.proofs.Laws.{made-none, made-many, made}
 use Rattle.fir.proofs.TapRecord.from_coeffs.Statement.{statement}
 use Rattle.fir.proofs.TapRecord.from_coeffs.Tie as tie
 
 abbrev Inv-loop : tie.InvT-loop
-Inv-loop coeffs length samples taps₀ i₀ taps i = (i ≤ length) × Copying coeffs (zeros maxTaps) taps i
+Inv-loop coeffs length samples taps₀ i₀ taps i = Overwriting (zeros maxTaps) 0 coeffs length taps i
 
 abbrev μ-loop : tie.MeasureT-loop
 μ-loop coeffs length samples taps₀ i₀ taps i = length - i
@@ -23,20 +24,15 @@ returns-2 c = made-many maxTaps (c .before .before .before .before .args .coeffs
     (c .blank2 .ensures)
 
 loop-holds : tie.Need-loop-holds Inv-loop μ-loop
-loop-holds c = let start : tie.Start Inv-loop μ-loop = search in
-    (search needs, copy-start (start .args .coeffs .now) (zeros maxTaps) _ (c .no-numbers2 .ensures))
+loop-holds c = rw (c .no-numbers2 .ensures) (overwrite-start 0 refl (omega arith))
 
 loop-again : tie.Need-loop-again Inv-loop μ-loop
-loop-again c = let l = c .before .before in (
-  omega arith,
-  copy-turn (l .before .before .before .before .before .before .args .coeffs .now) (zeros maxTaps) (l .loop .taps) (l .loop .i) (omega arith)
-      (omega arith) (l .loop .inv .1),
-)
+loop-again c = overwrite-turn _ _ nan (omega arith) (omega arith) refl (c .before .before .loop .inv)
 
 returns-3 : tie.Need-returns-3 Inv-loop μ-loop
 returns-3 c = let start : tie.Start Inv-loop μ-loop = search in
     made maxTaps (start .args .coeffs .now) (c .before .loop .i) (omega arith) (omega arith) (omega arith) (c .before .before .before .no-numbers .ensures)
-    (c .before .loop .inv .1)
+    (c .before .loop .inv)
 
 pub from-coeffs-spec : {M : Type 1} → statement M
 from-coeffs-spec =

@@ -1,34 +1,37 @@
 -- `sections::parts::reset_sections` meets its contract. The loop's invariant: the first i sections are cleared. The measure is how many are left.
-use mathlib.Core.Path.{_≡_, _∙_}
+use mathlib.Core.Path.{_≡_, sym, ap, _∙_}
 use mathlib.Core.List.{map}
-use Prim.Native.Nat.{_≤_, _<_, _-_}
+use Prim.Native.Nat.{_-_}
 use native.Mathlib.Omega.{arith}
 use borrow.Author.Needs.{needs}
-use lib.ListN.{length, length-map}
+use lib.ListN.{length, take, length-map, List·getD-map}
+use lib.Seq.{take-all}
 use Rattle.cascade_theory.specs.Section.{clearedSection}
 use Rattle.sections.specs.View.{sectionView}
-use Rattle.cascade_theory.proofs.Loops.{upTo, upTo-none, upTo-turn, upTo-all}
+use Rattle.lists.proofs.Overwriting.{Overwriting, map-start, map-turn, overwrite-all}
+use Rattle.lists.proofs.Places.{map-set}
 use Rattle.sections.proofs.parts.reset_sections.Statement.{statement}
 use Rattle.sections.proofs.parts.reset_sections.Tie as tie
 
 abbrev Inv-loop : tie.InvT-loop
-Inv-loop kept₀ i₀ kept i = (i ≤ 4) × (map sectionView kept ≡ upTo clearedSection i (map sectionView kept₀))
+Inv-loop kept₀ i₀ kept i = Overwriting (map sectionView kept₀) 0 (map clearedSection (take 4 (map sectionView kept₀))) 4 (map sectionView kept) i
 
 abbrev μ-loop : tie.MeasureT-loop
 μ-loop kept₀ i₀ kept i = 4 - i
 
 loop-holds : tie.Need-loop-holds Inv-loop μ-loop
-loop-holds c = (omega arith, upTo-none clearedSection _)
+loop-holds c = map-start clearedSection 4 (simp length-map (omega (arith, c .good .0 .1 .0 .1)))
 
 loop-again : tie.Need-loop-again Inv-loop μ-loop
-loop-again c = let at = c .before .before .before in
-    let h : at .loop .i < length (at .before .args .sections) = omega (arith, at .before .good .0 .1 .0 .1) in
-    (omega arith, upTo-turn clearedSection sectionView (at .before .args .sections) (at .loop .kept) (at .loop .i) _ _ h (at .loop .inv .1) (c .reset .ensures))
+loop-again c = let l = c .before .before .before .loop in
+    rw map-set (map-turn clearedSection (l .i) _ (omega arith) (c .reset .ensures ∙ ap clearedSection (sym (List·getD-map sectionView (l .kept) (l .i) _)))
+    (l .inv))
 
 returns : tie.Need-returns Inv-loop μ-loop
 returns c = let at = c .before in
-    let h : length (map sectionView (at .before .args .sections)) ≤ at .loop .i = simp length-map (omega (arith, at .before .good .0 .1 .0 .1)) in
-    at .loop .inv .1 ∙ upTo-all clearedSection _ _ h
+    let old = map sectionView (at .before .args .sections) in
+    let four : length old ≡ 4 = simp length-map (omega (arith, at .before .good .0 .1 .0 .1)) in
+    overwrite-all _ (omega arith) (sym four) (at .loop .inv) ∙ ap (map clearedSection) (take-all 4 old (omega arith))
 
 pub reset-sections-spec : {M : Type 1} → statement M
 reset-sections-spec =

@@ -18,10 +18,10 @@ abbrev μ-loop : tie.MeasureT-loop
 
 returns : tie.Need-returns Inv-loop μ-loop
 returns c = let a = c .before .before .before .args in
-    left-out (a .output .now) (a .at) _ (a .k) (length-digits (a .base) (a .k) (a .n)) (sym (c .before .has-room .ensures) ∙ not-true _ (c .if1 .taken))
+    left-out (a .output .now) (a .at) _ (a .k) (length-digits (a .base) (a .k) (a .n)) (sym (c .before .within .ensures) ∙ not-true _ (c .if1 .taken))
 
 loop-holds : tie.Need-loop-holds Inv-loop μ-loop
-loop-holds c = (omega arith, leb-true _ _ (sym (c .before .has-room .ensures) ∙ not-false _ (c .if1 .left)), (refl, refl))
+loop-holds c = (omega arith, leb-true _ _ (sym (c .before .within .ensures) ∙ not-false _ (c .if1 .left)), (refl, refl))
 
 glyph-requires : tie.Need-glyph-requires Inv-loop μ-loop
 glyph-requires c κs = let s = c .before .before .before .before .before in

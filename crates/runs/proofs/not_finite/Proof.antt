@@ -1,7 +1,7 @@
--- `pipeline::not_finite` meets its contract.
+-- `runs::not_finite` meets its contract.
 use borrow.Author.Needs.{needs}
-use Rattle.pipeline.proofs.not_finite.Statement.{statement}
-use Rattle.pipeline.proofs.not_finite.Tie as tie
+use Rattle.runs.proofs.not_finite.Statement.{statement}
+use Rattle.runs.proofs.not_finite.Tie as tie
 
 returns : tie.Need-returns
 returns c = rw (← c .before .is-finite .ensures, c .if1 .taken)

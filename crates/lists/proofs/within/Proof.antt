@@ -1,11 +1,11 @@
--- `fir_sums::within` meets its contract.
+-- `lists::within` meets its contract.
 use Prim.Native.Nat.{_+_}
 use mathlib.Core.Path.{sym}
 use native.Mathlib.Omega.{arith}
 use borrow.Author.Tests.{lt-leb}
-use Rattle.fir_theory.proofs.Sums.{room}
-use Rattle.fir_sums.proofs.within.Statement.{statement}
-use Rattle.fir_sums.proofs.within.Tie as tie
+use Rattle.lists.proofs.Tests.{room}
+use Rattle.lists.proofs.within.Statement.{statement}
+use Rattle.lists.proofs.within.Tie as tie
 
 returns : tie.Need-returns
 returns c = let a = c .before .args in sym (lt-leb (a .at + a .m) (a .length) (omega arith))

@@ -1,0 +1,25 @@
+-- Tests: both hold, of two outcomes by a test, and whether a run of places is there.
+use mathlib.Core.Path.{_≡_, refl, sym}
+use mathlib.Core.Bool.{Bool, true, false, _&&_, cond, true≢false}
+use Prim.Native.Nat.{ℕ, _+_, _-_, _≤_}
+use native.Mathlib.Omega.{arith}
+use lib.Dec.{leb}
+use borrow.Author.Tests.{le-leb, lt-leb, leb-true, leb-false}
+
+pub both : (a b : Bool) → (a && b) ≡ true → (a ≡ true) × (b ≡ true)
+both true b h = (refl, h)
+both false b h = absurd (true≢false (sym h))
+
+pub cond-true : {A : Type 0} (b : Bool) (x y : A) → b ≡ true → cond b x y ≡ x
+cond-true b x y h = rw h
+
+pub cond-false : {A : Type 0} (b : Bool) (x y : A) → b ≡ false → cond b x y ≡ y
+cond-false b x y h = rw h
+
+-- the test that cannot wrap
+pub room : (length at m : ℕ) → at ≤ length → leb m (length - at) ≡ leb (at + m) length
+room length at m h = go (leb (at + m) length) refl
+  where
+    go : (b : Bool) → leb (at + m) length ≡ b → leb m (length - at) ≡ b
+    go true e = le-leb m (length - at) (omega (arith, leb-true (at + m) length e))
+    go false e = lt-leb m (length - at) (omega (arith, leb-false (at + m) length e))

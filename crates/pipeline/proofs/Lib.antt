@@ -1,2 +1,0 @@
--- Counting samples that are not finite.
-pub mod Scan
