@@ -1,8 +1,9 @@
 // 01's table of refusals for designs, and the order of checks of each kind of design. `validate_params` is that of 000
 // and of 001.
 ghost use mathlib.Core.Path.{_≡_};
+ghost use mathlib.Core.Bool.{cond};
 ghost use Rattle.runs.specs.Refusals.{orderRefused};
-ghost use Rattle.design_checks.specs.Checks.{notPositive, cutoffRefused, bandRefused, validateParams, validateBand, validateChebyshev, validateFir};
+ghost use Rattle.design_checks.specs.Checks.{notPositive, cutoffRefused, bandRefused, checksThen, validateParams, validateBand, validateChebyshev, validateFir};
 use limits::MAX_BAND_ORDER;
 use limits::MAX_ORDER;
 use limits::MAX_TAPS;
@@ -11,52 +12,55 @@ use limits::MAX_TAPS;
 fn order_refused(order: usize, most: usize) -> bool
     ensures { λ r. ⌜ r ≡ orderRefused order most ⌝ }
 {
-    if order == 0 {
-        return true;
-    }
-    order > most
+    (order == 0) | (order > most)
 }
 
 // 3, of a rate, and 4, of decibels: NaN or at most 0.
 fn not_positive(x: f64) -> bool
     ensures { λ r. ⌜ r ≡ notPositive x ⌝ }
 {
-    if x != x {
-        return true;
-    }
-    x <= 0.0
+    (x != x) | (x <= 0.0)
 }
 
 // 2: cutoff NaN, at most 0, or at least the limit: rate × 0.5, and 0.5 for the FIR.
 fn cutoff_refused(cutoff: f64, limit: f64) -> bool
     ensures { λ r. ⌜ r ≡ cutoffRefused cutoff limit ⌝ }
 {
-    if cutoff != cutoff {
-        return true;
-    }
-    if cutoff <= 0.0 {
-        return true;
-    }
-    cutoff >= limit
+    (cutoff != cutoff) | ((cutoff <= 0.0) | (cutoff >= limit))
 }
 
 // 2, band pass: an edge NaN, low at most 0, high at most low, high at least rate × 0.5.
 fn band_refused(low: f64, high: f64, rate: f64) -> bool
     ensures { λ r. ⌜ r ≡ bandRefused low high rate ⌝ }
 {
-    if low != low {
-        return true;
+    (low != low) | ((high != high) | ((low <= 0.0) | ((high <= low) | (high >= rate * 0.5))))
+}
+
+// The number where a check refuses, else what the checks after it draw.
+fn refusal_or(refused: bool, number: u8, next: u8) -> u8
+    ensures { λ r. ⌜ r ≡ cond refused number next ⌝ }
+{
+    if refused {
+        return number;
     }
-    if high != high {
-        return true;
-    }
-    if low <= 0.0 {
-        return true;
-    }
-    if high <= low {
-        return true;
-    }
-    high >= rate * 0.5
+    next
+}
+
+// The checks 1, 3, 2, and what the checks after them draw.
+fn checks_then(cutoff: f64, sample_rate: f64, order: usize, next: u8) -> u8
+    ensures { λ r. ⌜ r ≡ checksThen cutoff «sample_rate» order next ⌝ }
+{
+    let frequency = refusal_or(
+        cutoff_refused(cutoff, sample_rate * 0.5),
+        runs::INVALID_FREQUENCY,
+        next,
+    );
+    let rate = refusal_or(
+        not_positive(sample_rate),
+        runs::INVALID_SAMPLE_RATE,
+        frequency,
+    );
+    refusal_or(order_refused(order, MAX_ORDER), runs::INVALID_ORDER, rate)
 }
 
 // The checks of the low pass and the high pass, with which the Chebyshev designs begin, in the order 1, 3, 2: 0, or the
@@ -64,57 +68,42 @@ fn band_refused(low: f64, high: f64, rate: f64) -> bool
 pub fn validate_params(cutoff: f64, sample_rate: f64, order: usize) -> u8
     ensures { λ r. ⌜ r ≡ validateParams cutoff «sample_rate» order ⌝ }
 {
-    if order_refused(order, MAX_ORDER) {
-        return runs::INVALID_ORDER;
-    }
-    if not_positive(sample_rate) {
-        return runs::INVALID_SAMPLE_RATE;
-    }
-    if cutoff_refused(cutoff, sample_rate * 0.5) {
-        return runs::INVALID_FREQUENCY;
-    }
-    0
+    checks_then(cutoff, sample_rate, order, 0)
 }
 
 // The checks of the Chebyshev designs, in the order 1, 3, 2, 4: 0, or the refusal number.
 pub fn validate_chebyshev(cutoff: f64, db: f64, sample_rate: f64, order: usize) -> u8
     ensures { λ r. ⌜ r ≡ validateChebyshev cutoff db «sample_rate» order ⌝ }
 {
-    let refusal = validate_params(cutoff, sample_rate, order);
-    if refusal != 0 {
-        return refusal;
-    }
-    if not_positive(db) {
-        return runs::INVALID_RIPPLE;
-    }
-    0
+    let ripple = refusal_or(not_positive(db), runs::INVALID_RIPPLE, 0);
+    checks_then(cutoff, sample_rate, order, ripple)
 }
 
 // The checks of the band pass, in the order 1, 2, 3: 0, or the refusal number.
 pub fn validate_band(low: f64, high: f64, sample_rate: f64, order: usize) -> u8
     ensures { λ r. ⌜ r ≡ validateBand low high «sample_rate» order ⌝ }
 {
-    if order_refused(order, MAX_BAND_ORDER) {
-        return runs::INVALID_ORDER;
-    }
-    if band_refused(low, high, sample_rate) {
-        return runs::INVALID_FREQUENCY;
-    }
-    if not_positive(sample_rate) {
-        return runs::INVALID_SAMPLE_RATE;
-    }
-    0
+    let rate = refusal_or(not_positive(sample_rate), runs::INVALID_SAMPLE_RATE, 0);
+    let frequency = refusal_or(
+        band_refused(low, high, sample_rate),
+        runs::INVALID_FREQUENCY,
+        rate,
+    );
+    refusal_or(
+        order_refused(order, MAX_BAND_ORDER),
+        runs::INVALID_ORDER,
+        frequency,
+    )
 }
 
 // The checks of the FIR, in the order 1, 2: 0, or the refusal number.
 pub fn validate_fir(taps: usize, cutoff: f64) -> u8
     ensures { λ r. ⌜ r ≡ validateFir taps cutoff ⌝ }
 {
-    if order_refused(taps, MAX_TAPS) {
-        return runs::INVALID_ORDER;
-    }
-    if cutoff_refused(cutoff, 0.5) {
-        return runs::INVALID_FREQUENCY;
-    }
-    0
+    let frequency = refusal_or(cutoff_refused(cutoff, 0.5), runs::INVALID_FREQUENCY, 0);
+    refusal_or(
+        order_refused(taps, MAX_TAPS),
+        runs::INVALID_ORDER,
+        frequency,
+    )
 }
