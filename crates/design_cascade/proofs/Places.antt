@@ -37,7 +37,8 @@ no-places = refl
 -- ---- one section a turn
 pub upTo-turn : {A : Type 0} (view : A → SectionRecord) (kept : List A) (g : ℕ → SectionRecord) (m : ℕ) (a : A)
     → map view kept ≡ padded maxSections (upTo g m) → m < maxSections → view a ≡ g m → map view (set kept m a) ≡ padded maxSections (upTo g (m + 1))
-upTo-turn view kept g m a e h v = rw (add-one) (place view kept maxSections m (upTo g m) a (g m) e (sym (upTo-length g m)) h v ∙ ap (padded maxSections) (more m))
+upTo-turn view kept g m a e h v =
+    rw add-one (place view kept maxSections m (upTo g m) a (g m) e (sym (upTo-length g m)) h v ∙ ap (padded maxSections) (more m))
   where
     more : (m : ℕ) → upTo g m ++ g m ∷ [] ≡ upTo g (suc m)
     more m = unfold upTo in refl

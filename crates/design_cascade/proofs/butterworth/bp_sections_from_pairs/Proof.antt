@@ -43,4 +43,6 @@ returns c = let l = c .before .loop in
 
 pub bp-sections-from-pairs-spec : {M : Type 1} → statement M
 bp-sections-from-pairs-spec =
-    tie.close (tie.spec Inv-loop μ-loop (λ c κs. search needs) loop-holds bp-pair-requires (λ c. omega arith) (λ c. omega arith) (λ c. omega arith) (λ c. omega arith) (λ c. omega arith) (λ c. omega arith) (λ c. omega arith) (λ c. omega arith) (λ c. omega arith) loop-again returns)
+    tie.close
+    (tie.spec Inv-loop μ-loop (λ c κs. search needs) loop-holds bp-pair-requires (λ c. omega arith) (λ c. omega arith) (λ c. omega arith)
+    (λ c. omega arith) (λ c. omega arith) (λ c. omega arith) (λ c. omega arith) (λ c. omega arith) (λ c. omega arith) loop-again returns)

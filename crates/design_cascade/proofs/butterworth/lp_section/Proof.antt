@@ -6,7 +6,7 @@ use Rattle.design_cascade.proofs.butterworth.lp_section.Tie as tie
 
 returns : tie.Need-returns
 unfolding lpPair
-returns c = rw (c .lp-biquad-from-pole .ensures, c .before .sin .ensures, c .before .before .cos .ensures, c .before .before .before .angle .ensures)
+returns c = cc
 
 pub lp-section-spec : {M : Type 1} → statement M
 lp-section-spec = tie.close (tie.spec (λ c κs. search needs) (λ c κs. search needs) (λ c κs. search needs) (λ c κs. search needs) returns)

@@ -22,4 +22,6 @@ returns-2 c = let e : tie.Else1 = search in is-accepted (e .before .validate-che
 
 pub design-chebyshev1-lp-spec : {M : Type 1} → statement M
 design-chebyshev1-lp-spec =
-    tie.close (tie.spec (λ c κs. search needs) (λ c κs. search needs) returns (λ c κs. search needs) (λ c κs. passed (c .before) .1) (λ c κs. passed (c .before .before)) returns-2)
+    tie.close
+    (tie.spec (λ c κs. search needs) (λ c κs. search needs) returns (λ c κs. search needs) (λ c κs. passed (c .before) .1)
+    (λ c κs. passed (c .before .before)) returns-2)

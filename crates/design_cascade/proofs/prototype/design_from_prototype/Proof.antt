@@ -6,7 +6,7 @@ use Rattle.design_cascade.proofs.prototype.design_from_prototype.Tie as
 
 returns : tie.Need-returns
 unfolding prototypeCascade
-returns c = rw (c .before .sections-from-pairs .ensures, c .first-from-pole .ensures)
+returns c = cc
 
 pub design-from-prototype-spec : {M : Type 1} → statement M
 design-from-prototype-spec = tie.close (tie.spec (λ c κs. search needs) (λ c κs. search needs) returns)

@@ -38,4 +38,6 @@ returns c = let l = c .before .loop in
 
 pub sections-from-pairs-spec : {M : Type 1} → statement M
 sections-from-pairs-spec =
-    tie.close (tie.spec Inv-loop μ-loop (λ c κs. search needs) loop-holds section-from-pair-requires (λ c. omega arith) (λ c. omega arith) (λ c. omega arith) (λ c. omega arith) loop-again returns)
+    tie.close
+    (tie.spec Inv-loop μ-loop (λ c κs. search needs) loop-holds section-from-pair-requires (λ c. omega arith) (λ c. omega arith)
+    (λ c. omega arith) (λ c. omega arith) loop-again returns)
