@@ -15,7 +15,7 @@ use Rattle.c_blocks.proofs.cascades.cascade_block.Statement.{statement}
 use Rattle.c_blocks.proofs.cascades.cascade_block.Tie as tie
 
 abbrev start : tie.Else1 → tie.Start
-start e = e .before .before .before .before .before .before
+start e = search
 
 abbrev else1 : tie.Else2 → tie.Else1
 else1 e = e .before .before .before .before

@@ -7,7 +7,7 @@ use Rattle.c_blocks.proofs.filters.fir_block.Statement.{statement}
 use Rattle.c_blocks.proofs.filters.fir_block.Tie as tie
 
 abbrev start : tie.Else1 → tie.Start
-start e = e .before .before .before .before .before .before .before
+start e = search
 
 returns : tie.Need-returns
 returns c = let at-start : tie.Start = search in
