@@ -73,16 +73,20 @@ module _ (F : Filter) (keeps : (s : F .State) (x : Float) → F .check s ≡ tru
   place-done h e p = run-done F keeps s₀ old old h e (omega arith) (p .running)
 
 -- ---- a part that was copied into places for 256 numbers, and is lent from there
-pub copy-lent : (part places copy : List Float) → length places ≡ 256 → length part ≤ 256 → copy ≡ copied part places → take (length part) copy ≡ part
-copy-lent part places copy l h e = ap (take (length part)) e ∙ copied-front part places (length part) refl (omega (arith, l))
+module _ (part places : List Float) {copy : List Float} (l : length places ≡ 256) (h : length part ≤ 256) (e : copy ≡ copied part places) where
+  copy-lent : take (length part) copy ≡ part
+  copy-lent = ap (take (length part)) e ∙ copied-front part places (length part) refl (omega (arith, l))
+
+  pub lent-length : length part ≡ length (take (length part) copy)
+  lent-length = sym (ap length copy-lent)
+
+  -- a block from the copy to the part's places is a block in place
+  pub part-ran : (K : Kind) (numbers : List Float) (counts tally : List ℕ) {c : Call}
+      → c ≡ blockCall K numbers counts (take (length part) copy) part tally → c ≡ blockInPlaceCall K numbers counts part tally
+  unfolding blockInPlaceCall
+  part-ran K numbers counts tally ran = ran ∙ ap (λ (xs : List Float). blockCall K numbers counts xs part tally) copy-lent
 
 -- ---- over slices
--- a part from its copy to its places is a block in place
-pub part-ran : (K : Kind) (numbers : List Float) (counts : List ℕ) (part copy : List Float) (tally : List ℕ) {c : Call}
-    → take (length part) copy ≡ part → c ≡ blockCall K numbers counts (take (length part) copy) part tally → c ≡ blockInPlaceCall K numbers counts part tally
-unfolding blockInPlaceCall
-part-ran K numbers counts part copy tally lent e = e ∙ ap (λ (l : List Float). blockCall K numbers counts l part tally) lent
-
 module _ (K : Kind) (numbers : List Float) (counts : List ℕ) (input output : List Float) (tally : List ℕ) where
   abbrev s : K .filter .State
   s = K .read numbers counts
