@@ -20,7 +20,9 @@ returns-3 c = let ran : tie.After-update = search in
     (lend-step cascadeKind _ _ fit (read-is _ _ fit (held .read .ensures)) _ (ran .update .ensures)) (c .before .refusal-of .ensures) (c .if3 .taken)
 
 put-requires : tie.Need-put-requires
-put-requires c κs = let else1 : tie.Else1 = search in single-lengths _ _ (passed (else1 .before .single .ensures) (else1 .if1 .left))
+put-requires c κs = let else1 : tie.Else1 = search in
+    let start : tie.Start = search in
+    single-lengths (start .args .answer .now) (start .args .clouded .now) (passed (else1 .before .single .ensures) (else1 .if1 .left))
 
 returns-4 : tie.Need-returns-4
 returns-4 c = let answered : tie.After-put = search in
