@@ -4,9 +4,5 @@ use Rattle.design_checks.specs.Checks.{bandRefused}
 use Rattle.design_checks.proofs.band_refused.Statement.{statement}
 use Rattle.design_checks.proofs.band_refused.Tie as tie
 
-returns : tie.Need-returns
-unfolding bandRefused
-returns c = let a = c .args in rw (nan-test (a .low), nan-test (a .high))
-
 pub band-refused-spec : {M : Type 1} → statement M
-band-refused-spec = tie.close (tie.spec returns)
+band-refused-spec = tie.close (tie.spec (λ c. unfold bandRefused in let a = c .args in rw (nan-test (a .low), nan-test (a .high))))

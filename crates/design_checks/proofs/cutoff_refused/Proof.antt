@@ -4,9 +4,5 @@ use Rattle.design_checks.specs.Checks.{cutoffRefused}
 use Rattle.design_checks.proofs.cutoff_refused.Statement.{statement}
 use Rattle.design_checks.proofs.cutoff_refused.Tie as tie
 
-returns : tie.Need-returns
-unfolding cutoffRefused
-returns c = rw nan-test
-
 pub cutoff-refused-spec : {M : Type 1} → statement M
-cutoff-refused-spec = tie.close (tie.spec returns)
+cutoff-refused-spec = tie.close (tie.spec (λ c. unfold cutoffRefused in rw nan-test))

@@ -4,9 +4,5 @@ use Rattle.design_checks.specs.Checks.{notPositive}
 use Rattle.design_checks.proofs.not_positive.Statement.{statement}
 use Rattle.design_checks.proofs.not_positive.Tie as tie
 
-returns : tie.Need-returns
-unfolding notPositive
-returns c = rw nan-test
-
 pub not-positive-spec : {M : Type 1} → statement M
-not-positive-spec = tie.close (tie.spec returns)
+not-positive-spec = tie.close (tie.spec (λ c. unfold notPositive in rw nan-test))

@@ -4,9 +4,5 @@ use Rattle.runs.specs.Refusals.{orderRefused}
 use Rattle.design_checks.proofs.order_refused.Statement.{statement}
 use Rattle.design_checks.proofs.order_refused.Tie as tie
 
-returns : tie.Need-returns
-unfolding orderRefused
-returns c = refl
-
 pub order-refused-spec : {M : Type 1} → statement M
-order-refused-spec = tie.close (tie.spec returns)
+order-refused-spec = tie.close (tie.spec (λ c. unfold orderRefused in refl))

@@ -4,12 +4,8 @@ use borrow.Author.Needs.{needs}
 use Rattle.design_checks.proofs.validate_band.Statement.{statement}
 use Rattle.design_checks.proofs.validate_band.Tie as tie
 
-returns : tie.Need-returns
-unfolding validateBand
-returns c = cc
-
 pub validate-band-spec : {M : Type 1} → statement M
 validate-band-spec =
     tie.close
     (tie.spec (λ c κs. search needs) (λ c κs. search needs) (λ c κs. search needs) (λ c κs. search needs) (λ c κs. search needs)
-    (λ c κs. search needs) returns)
+    (λ c κs. search needs) (λ c. unfold validateBand in cc))

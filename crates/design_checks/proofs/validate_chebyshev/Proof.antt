@@ -4,9 +4,6 @@ use borrow.Author.Needs.{needs}
 use Rattle.design_checks.proofs.validate_chebyshev.Statement.{statement}
 use Rattle.design_checks.proofs.validate_chebyshev.Tie as tie
 
-returns : tie.Need-returns
-unfolding validateChebyshev
-returns c = cc
-
 pub validate-chebyshev-spec : {M : Type 1} → statement M
-validate-chebyshev-spec = tie.close (tie.spec (λ c κs. search needs) (λ c κs. search needs) (λ c κs. search needs) returns)
+validate-chebyshev-spec =
+    tie.close (tie.spec (λ c κs. search needs) (λ c κs. search needs) (λ c κs. search needs) (λ c. unfold validateChebyshev in cc))

@@ -4,9 +4,7 @@ use borrow.Author.Needs.{needs}
 use Rattle.design_checks.proofs.validate_fir.Statement.{statement}
 use Rattle.design_checks.proofs.validate_fir.Tie as tie
 
-returns : tie.Need-returns
-unfolding validateFir
-returns c = cc
-
 pub validate-fir-spec : {M : Type 1} → statement M
-validate-fir-spec = tie.close (tie.spec (λ c κs. search needs) (λ c κs. search needs) (λ c κs. search needs) (λ c κs. search needs) returns)
+validate-fir-spec =
+    tie.close
+    (tie.spec (λ c κs. search needs) (λ c κs. search needs) (λ c κs. search needs) (λ c κs. search needs) (λ c. unfold validateFir in cc))

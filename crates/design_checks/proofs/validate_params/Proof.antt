@@ -4,9 +4,5 @@ use borrow.Author.Needs.{needs}
 use Rattle.design_checks.proofs.validate_params.Statement.{statement}
 use Rattle.design_checks.proofs.validate_params.Tie as tie
 
-returns : tie.Need-returns
-unfolding validateParams
-returns c = c .checks-then .ensures
-
 pub validate-params-spec : {M : Type 1} → statement M
-validate-params-spec = tie.close (tie.spec (λ c κs. search needs) returns)
+validate-params-spec = tie.close (tie.spec (λ c κs. search needs) (λ c. unfold validateParams in c .checks-then .ensures))

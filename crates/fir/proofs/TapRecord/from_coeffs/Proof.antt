@@ -27,11 +27,9 @@ loop-holds c = let start : tie.Start Inv-loop μ-loop = search in
     (search needs, copy-start (start .args .coeffs .now) (zeros maxTaps) _ (c .no-numbers2 .ensures))
 
 loop-again : tie.Need-loop-again Inv-loop μ-loop
-loop-again c = let l = c .before .before in (
-  omega arith,
-  copy-turn (l .before .before .before .before .before .before .args .coeffs .now) (zeros maxTaps) (l .loop .taps) (l .loop .i) (omega arith)
-      (omega arith) (l .loop .inv .1),
-)
+loop-again c = let l = c .before .before in
+    let start : tie.Start Inv-loop μ-loop = search in
+    (omega arith, copy-turn (start .args .coeffs .now) (zeros maxTaps) (l .loop .taps) (l .loop .i) (omega arith) (omega arith) (l .loop .inv .1))
 
 returns-3 : tie.Need-returns-3 Inv-loop μ-loop
 returns-3 c = let start : tie.Start Inv-loop μ-loop = search in
