@@ -2,7 +2,7 @@
 use mathlib.Core.Path.{_≡_, refl, sym, ap, ap₂, _∙_, subst}
 use mathlib.Core.Bool.{Bool, true, false, cond}
 use mathlib.Core.List.{List, [], _∷_, _++_, append-assoc}
-use Prim.Native.Nat.{ℕ, _+_, _-_, _≤_}
+use Prim.Native.Nat.{ℕ, _+_, _-_, _≤_, min}
 use native.Mathlib.Omega.{arith}
 use lib.Dec.{eqb, ltb}
 use lib.ListN.{length, getD, take, drop, length-append, length-take, length-drop}
@@ -73,11 +73,20 @@ module _ (F : Filter) (keeps : (s : F .State) (x : Float) → F .check s ≡ tru
   place-done h e p = run-done F keeps s₀ old old h e (omega arith) (p .running)
 
 -- ---- a part that was copied into places for 256 numbers, and is lent from there
-pub copy-lent : (part places copy : List Float) → length places ≡ 256 → length part ≤ 256 → copy ≡ copied part places → take (length part) copy ≡ part
-copy-lent part places copy l h e = ap (take (length part)) e ∙ copied-front part places (length part) refl (omega (arith, l))
+module _ (part places : List Float) {copy : List Float} (l : length places ≡ 256) (h : length part ≤ 256) (e : copy ≡ copied part places) where
+  copy-lent : take (length part) copy ≡ part
+  copy-lent = ap (take (length part)) e ∙ copied-front part places (length part) refl (omega (arith, l))
+
+  pub lent-length : length part ≡ length (take (length part) copy)
+  lent-length = sym (ap length copy-lent)
+
+  -- a block from the copy to the part's places is a block in place
+  pub part-ran : (K : Kind) (numbers : List Float) (counts tally : List ℕ) {c : Call}
+      → c ≡ blockCall K numbers counts (take (length part) copy) part tally → c ≡ blockInPlaceCall K numbers counts part tally
+  unfolding blockInPlaceCall
+  part-ran K numbers counts tally ran = ran ∙ ap (λ (xs : List Float). blockCall K numbers counts xs part tally) copy-lent
 
 -- ---- over slices
-
 module _ (K : Kind) (numbers : List Float) (counts : List ℕ) (input output : List Float) (tally : List ℕ) where
   abbrev s : K .filter .State
   s = K .read numbers counts
@@ -134,13 +143,16 @@ module _ (K : Kind) (B : ReadBack K) where
     parts-start q = record { start = q; ready = q; place = place-start F (B .keeps) (K .read numbers₀ counts₀) old (q .good) }
 
     -- a part up to `to`
-    pub parts-turn : {numbers numbers′ buffer ys : List Float} {counts counts′ tally tally′ : List ℕ} {r total i : ℕ} (to : ℕ) → i ≤ to → to ≤ length old
+    pub parts-turn : {numbers numbers′ ys : List Float} {counts counts′ tally tally′ : List ℕ} {r total i to : ℕ} (buffer : List Float)
+        → to ≡ min (i + 256) (length buffer)
         → record { refusal = r; numbers = numbers′; counts = counts′; answers = ys; clouded = tally′ }
         ≡ blockInPlaceCall K numbers counts (take (to - i) (drop i buffer)) tally
         → Parts numbers counts buffer tally total i
         → Parts numbers′ counts′ (take i buffer ++ (ys ++ drop (to - i) (drop i buffer))) tally′ (total + getD tally′ 0 0) to
     unfolding blockInPlaceCall
-    parts-turn {numbers} {numbers′} {buffer} {ys} {counts} {counts′} {tally} {tally′} {r} {total} {i} to low high e p =
+    parts-turn {numbers} {numbers′} {ys} {counts} {counts′} {tally} {tally′} {r} {total} {i} {to} buffer h e p =
+        let low : i ≤ to = omega (arith, h, p .place .running .within, p .place .running .same) in
+        let high : to ≤ length old = omega (arith, h, p .place .running .same) in
         let s = K .read numbers counts in
         let s₀ = K .read numbers₀ counts₀ in
         let q = p .ready in
@@ -160,13 +172,13 @@ module _ (K : Kind) (B : ReadBack K) where
               turned);
         }
 
-    pub parts-done : {numbers buffer : List Float} {counts tally tally′ : List ℕ} {total i : ℕ} → length old ≤ i → tally′ ≡ total ∷ []
+    pub parts-done : {numbers : List Float} {counts tally tally′ : List ℕ} {total i : ℕ} (buffer : List Float) → length buffer ≤ i → tally′ ≡ total ∷ []
         → Parts numbers counts buffer tally total i
         → record { refusal = 0; numbers = numbers; counts = counts; answers = buffer; clouded = tally′ } ≡ blockInPlaceCall K numbers₀ counts₀ old tally₀
     unfolding blockInPlaceCall
-    parts-done h et p =
+    parts-done buffer h et p =
         let q = p .start in
-        let done = place-done F (B .keeps) (K .read numbers₀ counts₀) old h (q .good) (p .place) in
+        let done = place-done F (B .keeps) (K .read numbers₀ counts₀) old (omega (arith, p .place .running .same)) (q .good) (p .place) in
         block-accepted K numbers₀ counts₀ old old tally₀ (q .single) (lend-block K numbers₀ counts₀ (q .fit) refl old old done) refl (p .ready .held)
         (p .ready .held-counts) et
 
@@ -197,12 +209,12 @@ module _ (K : Kind) (B : ReadBack K) where
             (e ∙ call-is K numbers counts [] old tally (eqb-true (length tally) 1 p) q t (omega arith))))
 
     -- accepted: the buffer is as it was, and what follows is the block in place
-    pub record Follows : Type 0 where
+    record Follows : Type 0 where
       pub ready : Ready K numbers′ counts′ tally′
       pub same : buffer ≡ old
       pub block : blockInPlaceCall K numbers′ counts′ old tally′ ≡ blockInPlaceCall K numbers counts old tally
 
-    pub empty-accepted : r ≡ 0 → Follows
+    empty-accepted : r ≡ 0 → Follows
     unfolding answers after cloudedIn written blockInPlaceCall
     empty-accepted ok = go (eqb (length tally) 1) (K .fit numbers counts) (F .check s₀) refl refl refl
       where
@@ -232,3 +244,11 @@ module _ (K : Kind) (B : ReadBack K) where
               answers = written (answers F s xs) xs;
               clouded = cloudedIn (answers F s xs) ∷ [];
             }
+
+    pub empty-ready : r ≡ 0 → Ready K numbers′ counts′ tally′
+    empty-ready ok = empty-accepted ok .ready
+
+    pub empty-then : r ≡ 0 → {c : Call} → c ≡ blockInPlaceCall K numbers′ counts′ buffer tally′ → c ≡ blockInPlaceCall K numbers counts old tally
+    empty-then ok ran =
+        let f = empty-accepted ok in
+        ran ∙ ap (λ (l : List Float). blockInPlaceCall K numbers′ counts′ l tally′) (f .same) ∙ f .block

@@ -7,6 +7,7 @@ use native.Mathlib.Omega.{arith}
 use lib.Dec.{ltb, eqb}
 use lib.Ieee.{Float, le}
 use borrow.Author.Tests.{le-leb, lt-ltb, ltb-false, eq-eqb, eqb-true, eqb-false}
+use Rattle.limits.specs.Limits.{maxSections, maxOrder, maxBandOrder}
 use Rattle.cascade_theory.specs.Section.{SectionRecord, clearedSection}
 use Rattle.cascade_theory.specs.FirstOrder.{blankFirst, clearedFirst}
 use Rattle.cascade_theory.specs.Cascade.{CascadeRecord, checkCascade, clearedCascade}
@@ -21,7 +22,7 @@ use Rattle.design_cascade.specs.Design.{refusedDesign, accepted, unlessR
 use Rattle.design_poles.specs.Butterworth.{lpBiquad, hpBiquad, lpFirst, hpFirst}
 use Rattle.design_bandpass.specs.BandPass.{bandBiquad, bpBiquad, bpPair, bpReal}
 use Rattle.design_poles.specs.Chebyshev.{cheb1Biquad, cheb2Biquad, chebFirst}
-use Rattle.design_cascade.specs.Butterworth.{warped, lpPair, hpPair}
+use Rattle.design_cascade.specs.Butterworth.{lpPair, hpPair}
 use Rattle.design_cascade.specs.Chebyshev.{cheb1Pair, cheb2Pair}
 use Rattle.design_cascade.specs.Prototype.{pairOf, realPart, firstOf, prototypeCascade}
 use Rattle.design_cascade.specs.LowPass.{butterworthLp, butterworthHp, chebyshev1Lp, chebyshev2Lp}
@@ -57,13 +58,13 @@ upTo-clear g h zero = tt
 upTo-clear g h (suc n) = append-clear (upTo g n) (g n ∷ []) (upTo-clear g h n) (h n, tt)
 
 -- the cascade of a design: its check, by its counts, and its carried values
-fresh : (c : CascadeRecord) → c .count ≤ 4 → (ltb 0 (c .count) || c .hasFirst) ≡ true → AllClear (c .sections) → clearedFirst (c .first) ≡ c .first → c .clouded
-    ≡ false → FreshCascade c
+fresh : (c : CascadeRecord) → c .count ≤ maxSections → (ltb 0 (c .count) || c .hasFirst) ≡ true → AllClear (c .sections)
+    → clearedFirst (c .first) ≡ c .first → c .clouded ≡ false → FreshCascade c
 unfolding checkCascade clearedCascade
 fresh c n u a p o =
     let s = all-clear (c .sections) a in
     record {
-      checked = rw (le-leb (c .count) 4 n) u;
+      checked = rw (le-leb (c .count) maxSections n) u;
       cleared = λ i. record { sections = s i; count = c .count; first = p i; hasFirst = c .hasFirst; clouded = sym o i };
     }
 
@@ -105,10 +106,10 @@ used n h = go (ltb 0 (n / 2)) refl
     go true e = refl
     go false e = let z = ltb-false 0 (n / 2) e in eq-eqb (n % 2) 1 (omega arith)
 
-prototype-fresh : (p : Prototype) (n : ℕ) → (0 < n) × (n ≤ 8) → FreshCascade (prototypeCascade p n)
+prototype-fresh : (p : Prototype) (n : ℕ) → (0 < n) × (n ≤ maxOrder) → FreshCascade (prototypeCascade p n)
 unfolding prototypeCascade
-prototype-fresh p n h = fresh _ (omega (arith, h .1)) (used n (h .0)) (padded-clear 4 _ (upTo-clear (pairOf p n) (pair-clear p n) (n / 2))) (first-clear p n)
-    refl
+prototype-fresh p n h =
+    fresh _ (omega (arith, h .1)) (used n (h .0)) (padded-clear maxSections _ (upTo-clear (pairOf p n) (pair-clear p n) (n / 2))) (first-clear p n) refl
 
 pub butterworth-lp-fresh : (n : ℕ) (cutoff rate : Float) → butterworthLp n cutoff rate .refusal ≡ 0 → FreshCascade (butterworthLp n cutoff rate .cascade)
 unfolding butterworthLp
@@ -152,12 +153,11 @@ bpSections-clear n bw w0 = go (eqb (n % 2) 0)
     go true = bpUpTo-clear n bw w0 (n / 2)
     go false = append-clear (bpUpTo n bw w0 (n / 2)) (bpReal bw w0 ∷ []) (bpUpTo-clear n bw w0 (n / 2)) (real-clear bw w0, tt)
 
-pub band-fresh : (n : ℕ) (wl wh : Float) → 0 < n → n ≤ 4 → FreshCascade (bpCascade n wl wh)
+band-fresh : (n : ℕ) (wl wh : Float) → (0 < n) × (n ≤ maxBandOrder) → FreshCascade (bpCascade n wl wh)
 unfolding bpCascade
-band-fresh n wl wh h l = fresh _ l (rw (lt-ltb 0 n h)) (padded-clear 4 _ (bpSections-clear n (wh ⊖ wl) (wl ⊗ wh))) refl refl
+band-fresh n wl wh h = fresh _ (h .1) (rw (lt-ltb 0 n (h .0))) (padded-clear maxSections _ (bpSections-clear n (wh ⊖ wl) (wl ⊗ wh))) refl refl
 
 pub bandpass-fresh : (n : ℕ) (low high rate : Float) → butterworthBp n low high rate .refusal ≡ 0 → FreshCascade (butterworthBp n low high rate .cascade)
 unfolding butterworthBp
 bandpass-fresh n low high rate =
-    accepted-fresh (validateBand low high rate n) (bpCascade n (warped low rate) (warped high rate))
-    (λ (e : validateBand low high rate n ≡ 0). let p = good-band low high rate n e in band-fresh n (warped low rate) (warped high rate) (p .0) (p .1))
+    accepted-fresh (validateBand low high rate n) _ (λ e. band-fresh n _ _ (good-band low high rate n e))

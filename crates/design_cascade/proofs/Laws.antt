@@ -1,13 +1,14 @@
 -- What a design shows where it returns.
-use mathlib.Core.Path.{_≡_}
+use mathlib.Core.Path.{_≡_, _∙_, sym, ap}
 use Prim.Native.Nat.{ℕ}
 use borrow.Author.Tests.{eq-eqb, ne-eqb}
 use Rattle.cascade_theory.specs.Cascade.{CascadeRecord}
-use Rattle.design_cascade.specs.Design.{refusedDesign, accepted, unlessRefused}
+use Rattle.design_cascade.specs.Design.{DesignRecord, refusedDesign, accepted, unlessRefused}
 
--- v is what its checks drew
-pub is-refused : (v : ℕ) (c : CascadeRecord) → (v ≡ 0 → ⊥) → refusedDesign v ≡ unlessRefused v c
-is-refused v c h = rw (ne-eqb v 0 h)
+-- the code's checks drew r, which the definition's checks draw as v; the design d is refused, or made of the cascade a
+module _ {d : DesignRecord} {r v : ℕ} (drawn : r ≡ v) where
+  pub is-refused : (c : CascadeRecord) → (r ≡ 0 → ⊥) → d ≡ refusedDesign r → d ≡ unlessRefused v c
+  is-refused c some e = rw (ne-eqb v 0 (λ z. some (drawn ∙ z))) (e ∙ ap refusedDesign drawn)
 
-pub is-accepted : (v : ℕ) (c : CascadeRecord) → v ≡ 0 → accepted c ≡ unlessRefused v c
-is-accepted v c h = rw (eq-eqb v 0 h)
+  pub is-accepted : {a : CascadeRecord} (c : CascadeRecord) → r ≡ 0 → d ≡ accepted a → a ≡ c → d ≡ unlessRefused v c
+  is-accepted c none e same = rw (eq-eqb v 0 (sym drawn ∙ none)) (e ∙ ap accepted same)

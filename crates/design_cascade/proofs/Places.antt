@@ -6,6 +6,7 @@ use native.Mathlib.Numerals.{add-one}
 use native.Mathlib.Omega.{arith}
 use lib.ListN.{length, set, length-append}
 use lib.Ieee.{Float}
+use Rattle.limits.specs.Limits.{maxSections}
 use Rattle.cascade_theory.specs.Section.{SectionRecord, blankSection}
 use Rattle.lists.specs.Lists.{upTo}
 use Rattle.lists.proofs.Places.{upTo-length, map-set}
@@ -28,19 +29,20 @@ place view kept p i ss a s e n h v =
     ∙ ap (λ (k : ℕ). set (padded p ss) k s) n
     ∙ padded-next p ss s (omega (arith, n))
 
-pub no-places : blankSection ∷ blankSection ∷ blankSection ∷ blankSection ∷ [] ≡ padded 4 []
+pub no-places : blankSection ∷ blankSection ∷ blankSection ∷ blankSection ∷ [] ≡ padded maxSections []
 unfolding padded
 no-places = refl
 
 -- ---- one section a turn
 pub upTo-turn : {A : Type 0} (view : A → SectionRecord) (kept : List A) (g : ℕ → SectionRecord) (m : ℕ) (a : A)
-    → map view kept ≡ padded 4 (upTo g m) → m < 4 → view a ≡ g m → map view (set kept m a) ≡ padded 4 (upTo g (m + 1))
-upTo-turn view kept g m a e h v = rw (add-one) (place view kept 4 m (upTo g m) a (g m) e (sym (upTo-length g m)) h v ∙ ap (padded 4) (more m))
+    → map view kept ≡ padded maxSections (upTo g m) → m < maxSections → view a ≡ g m → map view (set kept m a) ≡ padded maxSections (upTo g (m + 1))
+upTo-turn view kept g m a e h v =
+    rw add-one (place view kept maxSections m (upTo g m) a (g m) e (sym (upTo-length g m)) h v ∙ ap (padded maxSections) (more m))
   where
     more : (m : ℕ) → upTo g m ++ g m ∷ [] ≡ upTo g (suc m)
     more m = unfold upTo in refl
 
-pub upTo-none : (g : ℕ → SectionRecord) → blankSection ∷ blankSection ∷ blankSection ∷ blankSection ∷ [] ≡ padded 4 (upTo g 0)
+pub upTo-none : (g : ℕ → SectionRecord) → blankSection ∷ blankSection ∷ blankSection ∷ blankSection ∷ [] ≡ padded maxSections (upTo g 0)
 unfolding upTo
 upTo-none g = no-places
 
@@ -52,21 +54,21 @@ module _ (n : ℕ) (bw w0 : Float) where
   band-length (suc m) = length-append (bpUpTo n bw w0 m) (bpPairOf n bw w0 m .bq1 ∷ bpPairOf n bw w0 m .bq2 ∷ []) ∙ ap (λ (k : ℕ). k + 2) (band-length m)
       ∙ (omega arith)
 
-  pub band-none : blankSection ∷ blankSection ∷ blankSection ∷ blankSection ∷ [] ≡ padded 4 (bpUpTo n bw w0 0)
+  pub band-none : blankSection ∷ blankSection ∷ blankSection ∷ blankSection ∷ [] ≡ padded maxSections (bpUpTo n bw w0 0)
   unfolding bpUpTo
   band-none = no-places
 
-  pub band-turn : {A : Type 0} (view : A → SectionRecord) (kept : List A) (m : ℕ) (a b : A) → map view kept ≡ padded 4 (bpUpTo n bw w0 m) → m < 2
+  pub band-turn : {A : Type 0} (view : A → SectionRecord) (kept : List A) (m : ℕ) (a b : A) → map view kept ≡ padded maxSections (bpUpTo n bw w0 m) → m < 2
       → view a ≡ bpPairOf n bw w0 m .bq1 → view b ≡ bpPairOf n bw w0 m .bq2 → map view (set (set kept (2 * m) a) (2 * m + 1) b)
-      ≡ padded 4 (bpUpTo n bw w0 (m + 1))
+      ≡ padded maxSections (bpUpTo n bw w0 (m + 1))
   band-turn view kept m a b e h u v =
       let xs = bpUpTo n bw w0 m in
       let p = bpPairOf n bw w0 m in
-      let one-more = place view kept 4 (2 * m) xs a (p .bq1) e (sym (band-length m)) (omega arith) u in
+      let one-more = place view kept maxSections (2 * m) xs a (p .bq1) e (sym (band-length m)) (omega arith) u in
       let l : 2 * m + 1 ≡ length (xs ++ p .bq1 ∷ []) = omega (arith, length-append xs (p .bq1 ∷ []), band-length m) in
       rw (add-one m)
-      (place view (set kept (2 * m) a) 4 (2 * m + 1) (xs ++ p .bq1 ∷ []) b (p .bq2) one-more l (omega arith) v
-      ∙ ap (padded 4) (append-assoc xs (p .bq1 ∷ []) (p .bq2 ∷ []) ∙ more m))
+      (place view (set kept (2 * m) a) maxSections (2 * m + 1) (xs ++ p .bq1 ∷ []) b (p .bq2) one-more l (omega arith) v
+      ∙ ap (padded maxSections) (append-assoc xs (p .bq1 ∷ []) (p .bq2 ∷ []) ∙ more m))
     where
       more : (m : ℕ) → bpUpTo n bw w0 m ++ bpPairOf n bw w0 m .bq1 ∷ bpPairOf n bw w0 m .bq2 ∷ [] ≡ bpUpTo n bw w0 (suc m)
       more m = unfold bpUpTo in refl

@@ -3,6 +3,7 @@
 ghost use mathlib.Core.Path.{_≡_};
 ghost use mathlib.Core.List.{map};
 ghost use Prim.Native.Nat.{_<_, _≤_, _/_};
+ghost use Rattle.limits.specs.Limits.{maxSections, maxOrder, maxBandOrder};
 ghost use Rattle.sections.specs.View.{sectionView};
 ghost use Rattle.cascade.specs.View.{cascadeView};
 ghost use Rattle.design_bandpass.specs.View.{pairView};
@@ -19,13 +20,14 @@ use cascade::Cascade;
 use design_bandpass::SectionPair;
 use design_checks::validate_band;
 use design_checks::validate_params;
+use limits::MAX_SECTIONS;
 use scalar::PI;
 use sections::FirstOrder;
 use sections::Section;
 
 // The angle of pole pair m: PI × ((2(m + 1) + N − 1)/(2N)).
 fn angle(order: usize, m: usize) -> f64
-    requires { ⌜ 0 < order ⌝ ∗ ⌜ order ≤ 8 ⌝ ∗ ⌜ m < 4 ⌝ }
+    requires { ⌜ 0 < order ⌝ ∗ ⌜ order ≤ maxOrder ⌝ ∗ ⌜ m < maxSections ⌝ }
     ensures { λ r. ⌜ r ≡ angleOf order m ⌝ }
 {
     PI * (((2 * (m + 1) + order - 1) as f64) / ((2 * order) as f64))
@@ -40,7 +42,7 @@ pub(crate) fn warp(cutoff: f64, sample_rate: f64) -> f64
 
 // The low-pass section of pole pair m.
 pub(crate) fn lp_section(order: usize, m: usize, k: f64) -> Section
-    requires { ⌜ 0 < order ⌝ ∗ ⌜ order ≤ 8 ⌝ ∗ ⌜ m < 4 ⌝ }
+    requires { ⌜ 0 < order ⌝ ∗ ⌜ order ≤ maxOrder ⌝ ∗ ⌜ m < maxSections ⌝ }
     ensures { λ r. ⌜ sectionView r ≡ lpPair order m k ⌝ }
 {
     let a = angle(order, m);
@@ -51,7 +53,7 @@ pub(crate) fn lp_section(order: usize, m: usize, k: f64) -> Section
 
 // The high-pass section of pole pair m.
 pub(crate) fn hp_section(order: usize, m: usize, k: f64) -> Section
-    requires { ⌜ 0 < order ⌝ ∗ ⌜ order ≤ 8 ⌝ ∗ ⌜ m < 4 ⌝ }
+    requires { ⌜ 0 < order ⌝ ∗ ⌜ order ≤ maxOrder ⌝ ∗ ⌜ m < maxSections ⌝ }
     ensures { λ r. ⌜ sectionView r ≡ hpPair order m k ⌝ }
 {
     let a = angle(order, m);
@@ -86,7 +88,7 @@ pub fn design_butterworth_hp(order: usize, cutoff: f64, sample_rate: f64) -> Cas
 
 // The two sections of pole pair m.
 fn bp_pair(order: usize, m: usize, bw: f64, omega0_sq: f64) -> SectionPair
-    requires { ⌜ 0 < order ⌝ ∗ ⌜ order ≤ 8 ⌝ ∗ ⌜ m < 4 ⌝ }
+    requires { ⌜ 0 < order ⌝ ∗ ⌜ order ≤ maxOrder ⌝ ∗ ⌜ m < maxSections ⌝ }
     ensures { λ r. ⌜ pairView r ≡ bpPairOf order bw «omega0_sq» m ⌝ }
 {
     let a = angle(order, m);
@@ -96,11 +98,11 @@ fn bp_pair(order: usize, m: usize, bw: f64, omega0_sq: f64) -> SectionPair
 }
 
 // The sections of all pole pairs, two each, and blank ones behind them.
-fn bp_sections_from_pairs(order: usize, bw: f64, omega0_sq: f64) -> [Section; 4]
-    requires { ⌜ 0 < order ⌝ ∗ ⌜ order ≤ 4 ⌝ }
-    ensures { λ r. ⌜ map sectionView r ≡ padded 4 (bpUpTo order bw «omega0_sq» (order / 2)) ⌝ }
+fn bp_sections_from_pairs(order: usize, bw: f64, omega0_sq: f64) -> [Section; MAX_SECTIONS]
+    requires { ⌜ 0 < order ⌝ ∗ ⌜ order ≤ maxBandOrder ⌝ }
+    ensures { λ r. ⌜ map sectionView r ≡ padded maxSections (bpUpTo order bw «omega0_sq» (order / 2)) ⌝ }
 {
-    let mut sections = [Section::blank(); 4];
+    let mut sections = [Section::blank(); MAX_SECTIONS];
     let mut m: usize = 0;
     while m < order / 2 {
         let pair = bp_pair(order, m, bw, omega0_sq);
@@ -114,9 +116,9 @@ fn bp_sections_from_pairs(order: usize, bw: f64, omega0_sq: f64) -> [Section; 4]
 }
 
 // Those, and that of the real pole, which an odd order has.
-fn bp_sections(order: usize, bw: f64, omega0_sq: f64) -> [Section; 4]
-    requires { ⌜ 0 < order ⌝ ∗ ⌜ order ≤ 4 ⌝ }
-    ensures { λ r. ⌜ map sectionView r ≡ padded 4 (bpSections order bw «omega0_sq») ⌝ }
+fn bp_sections(order: usize, bw: f64, omega0_sq: f64) -> [Section; MAX_SECTIONS]
+    requires { ⌜ 0 < order ⌝ ∗ ⌜ order ≤ maxBandOrder ⌝ }
+    ensures { λ r. ⌜ map sectionView r ≡ padded maxSections (bpSections order bw «omega0_sq») ⌝ }
 {
     let mut sections = bp_sections_from_pairs(order, bw, omega0_sq);
     if order % 2 == 0 {
@@ -127,7 +129,7 @@ fn bp_sections(order: usize, bw: f64, omega0_sq: f64) -> [Section; 4]
 }
 
 fn bp_cascade(order: usize, omega_l: f64, omega_h: f64) -> Cascade
-    requires { ⌜ 0 < order ⌝ ∗ ⌜ order ≤ 4 ⌝ }
+    requires { ⌜ 0 < order ⌝ ∗ ⌜ order ≤ maxBandOrder ⌝ }
     ensures { λ r. ⌜ cascadeView r ≡ bpCascade order «omega_l» «omega_h» ⌝ }
 {
     let sections = bp_sections(order, omega_h - omega_l, omega_l * omega_h);

@@ -2,6 +2,7 @@
 // the crate design_checks, its pole formulas in the crate design_poles, and its sections in the crate sections.
 ghost use mathlib.Core.Path.{_≡_};
 ghost use Prim.Native.Nat.{_<_, _≤_};
+ghost use Rattle.limits.specs.Limits.{maxSections, maxOrder};
 ghost use Rattle.sections.specs.View.{sectionView};
 ghost use Rattle.design_cascade.specs.Chebyshev.{thetaOf, poleOf, cheb1Pair, cheb2Pair, epsilonOf, cheb1Prototype, cheb2Prototype};
 ghost use Rattle.design_cascade.specs.LowPass.{chebyshev1Lp, chebyshev2Lp};
@@ -24,14 +25,14 @@ struct PolePair {
 
 // The angle of pole pair m: (PI × (2m + 1))/(2 × N).
 fn theta(order: usize, m: usize) -> f64
-    requires { ⌜ order ≤ 8 ⌝ ∗ ⌜ m < 4 ⌝ }
+    requires { ⌜ order ≤ maxOrder ⌝ ∗ ⌜ m < maxSections ⌝ }
     ensures { λ r. ⌜ r ≡ thetaOf order m ⌝ }
 {
     PI * ((2 * m + 1) as f64) / (2.0 * (order as f64))
 }
 
 fn pole_pair(order: usize, m: usize, sinh_a: f64, cosh_a: f64) -> PolePair
-    requires { ⌜ order ≤ 8 ⌝ ∗ ⌜ m < 4 ⌝ }
+    requires { ⌜ order ≤ maxOrder ⌝ ∗ ⌜ m < maxSections ⌝ }
     ensures { λ r. ⌜ polePairView r ≡ poleOf order m «sinh_a» «cosh_a» ⌝ }
 {
     let t = theta(order, m);
@@ -46,7 +47,7 @@ fn pole_pair(order: usize, m: usize, sinh_a: f64, cosh_a: f64) -> PolePair
 
 // The type I section of pole pair m.
 pub(crate) fn cheb1_section(order: usize, m: usize, sinh_a: f64, cosh_a: f64, k: f64) -> Section
-    requires { ⌜ order ≤ 8 ⌝ ∗ ⌜ m < 4 ⌝ }
+    requires { ⌜ order ≤ maxOrder ⌝ ∗ ⌜ m < maxSections ⌝ }
     ensures { λ r. ⌜ sectionView r ≡ cheb1Pair order m «sinh_a» «cosh_a» k ⌝ }
 {
     let p = pole_pair(order, m, sinh_a, cosh_a);
@@ -55,7 +56,7 @@ pub(crate) fn cheb1_section(order: usize, m: usize, sinh_a: f64, cosh_a: f64, k:
 
 // The type II section of pole pair m: the type I pole inverted, and the zeros ±j/|cos θ|.
 pub(crate) fn cheb2_section(order: usize, m: usize, sinh_a: f64, cosh_a: f64, k: f64) -> Section
-    requires { ⌜ order ≤ 8 ⌝ ∗ ⌜ m < 4 ⌝ }
+    requires { ⌜ order ≤ maxOrder ⌝ ∗ ⌜ m < maxSections ⌝ }
     ensures { λ r. ⌜ sectionView r ≡ cheb2Pair order m «sinh_a» «cosh_a» k ⌝ }
 {
     let p = pole_pair(order, m, sinh_a, cosh_a);
@@ -73,7 +74,7 @@ fn epsilon(db: f64) -> f64
 
 // a = arcsinh(1/ε)/N.
 fn chebyshev1_prototype(order: usize, ripple_db: f64, k: f64) -> Prototype
-    requires { ⌜ order ≤ 8 ⌝ }
+    requires { ⌜ order ≤ maxOrder ⌝ }
     ensures { λ r. ⌜ r ≡ cheb1Prototype order «ripple_db» k ⌝ }
 {
     let a = hyperbolic::arcsinh(1.0 / epsilon(ripple_db)) / (order as f64);
@@ -86,7 +87,7 @@ fn chebyshev1_prototype(order: usize, ripple_db: f64, k: f64) -> Prototype
 
 // a = arcsinh(ε)/N.
 fn chebyshev2_prototype(order: usize, stopband_db: f64, k: f64) -> Prototype
-    requires { ⌜ order ≤ 8 ⌝ }
+    requires { ⌜ order ≤ maxOrder ⌝ }
     ensures { λ r. ⌜ r ≡ cheb2Prototype order «stopband_db» k ⌝ }
 {
     let a = hyperbolic::arcsinh(epsilon(stopband_db)) / (order as f64);

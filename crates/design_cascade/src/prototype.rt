@@ -2,6 +2,7 @@
 ghost use mathlib.Core.Path.{_≡_};
 ghost use mathlib.Core.List.{map};
 ghost use Prim.Native.Nat.{_<_, _≤_, _/_};
+ghost use Rattle.limits.specs.Limits.{maxSections, maxOrder};
 ghost use Rattle.sections.specs.View.{sectionView, firstView};
 ghost use Rattle.lists.specs.Lists.{upTo};
 ghost use Rattle.design_cascade.specs.Design.{padded, accepted};
@@ -13,6 +14,7 @@ use super::chebyshev::cheb1_section;
 use super::chebyshev::cheb2_section;
 use super::returned::CascadeDesignResult;
 use cascade::Cascade;
+use limits::MAX_SECTIONS;
 use sections::FirstOrder;
 use sections::Section;
 
@@ -26,7 +28,7 @@ pub enum Prototype {
 
 // The section of pole pair m.
 fn section_from_pair(prototype: Prototype, order: usize, m: usize) -> Section
-    requires { ⌜ 0 < order ⌝ ∗ ⌜ order ≤ 8 ⌝ ∗ ⌜ m < 4 ⌝ }
+    requires { ⌜ 0 < order ⌝ ∗ ⌜ order ≤ maxOrder ⌝ ∗ ⌜ m < maxSections ⌝ }
     ensures { λ r. ⌜ sectionView r ≡ pairOf prototype order m ⌝ }
 {
     match prototype {
@@ -58,11 +60,11 @@ fn part_from_real_pole(prototype: Prototype) -> FirstOrder
 }
 
 // The sections of all pole pairs, from pair 0 on, and blank ones behind them.
-fn sections_from_pairs(prototype: Prototype, order: usize) -> [Section; 4]
-    requires { ⌜ 0 < order ⌝ ∗ ⌜ order ≤ 8 ⌝ }
-    ensures { λ r. ⌜ map sectionView r ≡ padded 4 (upTo (pairOf prototype order) (order / 2)) ⌝ }
+fn sections_from_pairs(prototype: Prototype, order: usize) -> [Section; MAX_SECTIONS]
+    requires { ⌜ 0 < order ⌝ ∗ ⌜ order ≤ maxOrder ⌝ }
+    ensures { λ r. ⌜ map sectionView r ≡ padded maxSections (upTo (pairOf prototype order) (order / 2)) ⌝ }
 {
-    let mut sections = [Section::blank(); 4];
+    let mut sections = [Section::blank(); MAX_SECTIONS];
     let mut m: usize = 0;
     while m < order / 2 {
         sections[m] = section_from_pair(prototype, order, m);
@@ -83,7 +85,7 @@ fn first_from_pole(prototype: Prototype, order: usize) -> FirstOrder
 
 // The accepted design of this prototype.
 pub(crate) fn design_from_prototype(prototype: Prototype, order: usize) -> CascadeDesignResult
-    requires { ⌜ 0 < order ⌝ ∗ ⌜ order ≤ 8 ⌝ }
+    requires { ⌜ 0 < order ⌝ ∗ ⌜ order ≤ maxOrder ⌝ }
     ensures { λ r. ⌜ designView r ≡ accepted (prototypeCascade prototype order) ⌝ }
 {
     let sections = sections_from_pairs(prototype, order);

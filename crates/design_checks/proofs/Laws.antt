@@ -8,7 +8,7 @@ use lib.IntN.{pos}
 use lib.Ieee.{Float, binary64, inFloat}
 use Rattle.runs.specs.Refusals.{InvalidOrder, orderRefused}
 use Rattle.runs.proofs.Laws.{good-order}
-use Rattle.limits.specs.Limits.{maxTaps}
+use Rattle.limits.specs.Limits.{maxOrder, maxBandOrder, maxTaps}
 use Rattle.design_checks.specs.Checks.{validateParams, validateChebyshev, validateBand, validateFir}
 
 -- parameters that pass have a good order: it is tested first, whatever is tested after it
@@ -19,17 +19,17 @@ first-passed true rest e = absurd (no e)
     no e = omega arith
 first-passed false rest e = refl
 
-pub good-params : (cutoff rate : Float) (n : ℕ) → validateParams cutoff rate n ≡ 0 → (0 < n) × (n ≤ 8)
+pub good-params : (cutoff rate : Float) (n : ℕ) → validateParams cutoff rate n ≡ 0 → (0 < n) × (n ≤ maxOrder)
 unfolding validateParams
-good-params cutoff rate n e = good-order n 8 (first-passed (orderRefused n 8) _ e)
+good-params cutoff rate n e = good-order n maxOrder (first-passed (orderRefused n maxOrder) _ e)
 
-pub good-chebyshev : (cutoff db rate : Float) (n : ℕ) → validateChebyshev cutoff db rate n ≡ 0 → (0 < n) × (n ≤ 8)
+pub good-chebyshev : (cutoff db rate : Float) (n : ℕ) → validateChebyshev cutoff db rate n ≡ 0 → (0 < n) × (n ≤ maxOrder)
 unfolding validateChebyshev
-good-chebyshev cutoff db rate n e = good-order n 8 (first-passed (orderRefused n 8) _ e)
+good-chebyshev cutoff db rate n e = good-order n maxOrder (first-passed (orderRefused n maxOrder) _ e)
 
-pub good-band : (low high rate : Float) (n : ℕ) → validateBand low high rate n ≡ 0 → (0 < n) × (n ≤ 4)
+pub good-band : (low high rate : Float) (n : ℕ) → validateBand low high rate n ≡ 0 → (0 < n) × (n ≤ maxBandOrder)
 unfolding validateBand
-good-band low high rate n e = good-order n 4 (first-passed (orderRefused n 4) _ e)
+good-band low high rate n e = good-order n maxBandOrder (first-passed (orderRefused n maxBandOrder) _ e)
 
 pub good-fir : (n : ℕ) (cutoff : Float) → validateFir n cutoff ≡ 0 → (0 < n) × (n ≤ maxTaps)
 unfolding validateFir

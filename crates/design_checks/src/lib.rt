@@ -11,52 +11,28 @@ use limits::MAX_TAPS;
 fn order_refused(order: usize, most: usize) -> bool
     ensures { λ r. ⌜ r ≡ orderRefused order most ⌝ }
 {
-    if order == 0 {
-        return true;
-    }
-    order > most
+    (order == 0) | (order > most)
 }
 
 // 3, of a rate, and 4, of decibels: NaN or at most 0.
 fn not_positive(x: f64) -> bool
     ensures { λ r. ⌜ r ≡ notPositive x ⌝ }
 {
-    if x != x {
-        return true;
-    }
-    x <= 0.0
+    (x != x) | (x <= 0.0)
 }
 
 // 2: cutoff NaN, at most 0, or at least the limit: rate × 0.5, and 0.5 for the FIR.
 fn cutoff_refused(cutoff: f64, limit: f64) -> bool
     ensures { λ r. ⌜ r ≡ cutoffRefused cutoff limit ⌝ }
 {
-    if cutoff != cutoff {
-        return true;
-    }
-    if cutoff <= 0.0 {
-        return true;
-    }
-    cutoff >= limit
+    (cutoff != cutoff) | ((cutoff <= 0.0) | (cutoff >= limit))
 }
 
 // 2, band pass: an edge NaN, low at most 0, high at most low, high at least rate × 0.5.
 fn band_refused(low: f64, high: f64, rate: f64) -> bool
     ensures { λ r. ⌜ r ≡ bandRefused low high rate ⌝ }
 {
-    if low != low {
-        return true;
-    }
-    if high != high {
-        return true;
-    }
-    if low <= 0.0 {
-        return true;
-    }
-    if high <= low {
-        return true;
-    }
-    high >= rate * 0.5
+    (low != low) | ((high != high) | ((low <= 0.0) | ((high <= low) | (high >= rate * 0.5))))
 }
 
 // The checks of the low pass and the high pass, with which the Chebyshev designs begin, in the order 1, 3, 2: 0, or the

@@ -1,6 +1,6 @@
 -- The forgetting rule, once for any filter and its plain filter, from laws of one sample and of a reset.
 use mathlib.Core.Path.{_≡_, refl, sym, ap, ap₂, _∙_}
-use mathlib.Core.Bool.{Bool, true, false, _&&_, _||_, cond, true≢false, or-false, or-true}
+use mathlib.Core.Bool.{Bool, true, false, _&&_, _||_, cond, or-false, or-true}
 use mathlib.Core.List.{List, [], _∷_, map, reverseAux, reverseAux-eq}
 use mathlib.Core.Option.{Option}
 use Prim.Native.Nat.{ℕ, suc}
@@ -8,7 +8,7 @@ use lib.ListN.{length}
 use lib.Ieee.{Float}
 use Rattle.runs.specs.Refusals.{Accepted, ShortOutput}
 use Rattle.runs.specs.Runs as Runs
-use Rattle.runs.specs.Runs.{Answer, marked, refusalOf, cloudedIn, placed, written, Filter, Fresh, refusedBlock, answer, answers, after}
+use Rattle.runs.specs.Runs.{Answer, cloudedIn, placed, written, Filter, Fresh, refusedBlock, answer, answers, after}
 use Rattle.runs.specs.Forgetting.{Call, step, block, reset, Outcome, stepped, blocked, wasReset, outcome, left, run, Plain, isShort, keptAfter}
 use Rattle.runs.specs.Forgetting.{plainAnswer, plainAnswers, plainOutcome, plainRun, answered, isReset, dues, all, shown, places, ofStep, ofBlock, seenOf}
 use Rattle.runs.specs.Forgetting.{seen, refusedBy, Forgets}

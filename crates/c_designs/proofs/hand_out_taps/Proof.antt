@@ -1,25 +1,19 @@
 -- `c_designs::hand_out_taps` meets its contract.
 use mathlib.Core.Path.{_≡_, sym, _∙_}
-use mathlib.Core.Bool.{true}
 use mathlib.Core.List.{_∷_, []}
 use lib.Dec.{eqb}
-use borrow.Author.Tests.{not-true, not-false, eq-eqb}
+use borrow.Author.Tests.{eq-eqb}
 use Rattle.lists.proofs.Tests.{cond-true}
 use lib.ListN.{length}
 use Rattle.limits.specs.Limits.{maxTaps}
 use Rattle.fir.specs.View.{madeView}
 use Rattle.c_calls.specs.Kinds.{tapsCounts}
-use Rattle.c_designs.specs.Designs.{tapsPlaces}
+use Rattle.c_calls.proofs.Laws.{passed, failed}
 use Rattle.c_designs.proofs.Laws.{taps-lengths, made-unfit, made-refused, made-accepted}
 use Rattle.lists.proofs.Copies.{copied-same}
 use borrow.Author.Needs.{needs}
 use Rattle.c_designs.proofs.hand_out_taps.Statement.{statement}
 use Rattle.c_designs.proofs.hand_out_taps.Tie as tie
-
-places : (e : tie.Else1) → tapsPlaces (e .before .before .before .before .before .before .before .before .args .taps .now)
-    (e .before .before .before .before .before .before .before .before .args .samples .now)
-    (e .before .before .before .before .before .before .before .before .args .counts .now) ≡ true
-places e = sym (e .before .has-tap-places .ensures) ∙ not-false _ (e .if1 .left)
 
 taps-are : (s : tie.Start) → length (s .args .m .filter .taps) ≡ maxTaps
 taps-are s = search needs
@@ -28,11 +22,10 @@ samples-are : (s : tie.Start) → length (s .args .m .filter .samples) ≡ maxTa
 samples-are s = search needs
 
 returns : tie.Need-returns
-returns c = made-unfit _ _ _ _ (sym (c .before .has-tap-places .ensures) ∙ not-true _ (c .if1 .taken))
+returns c = made-unfit _ _ _ _ (failed (c .before .has-tap-places .ensures) (c .if1 .taken))
 
 returns-2 : tie.Need-returns-2
-returns-2 c = let at-start : tie.Start = search in
-    made-refused (madeView (at-start .args .m)) _ _ _ (places (c .before)) (c .if2 .taken)
+returns-2 c = made-refused _ _ _ _ (passed (c .before .before .has-tap-places .ensures) (c .before .if1 .left)) (c .if2 .taken)
 
 returns-3 : tie.Need-returns-3
 unfolding tapsCounts
@@ -42,12 +35,13 @@ returns-3 c =
     let e : tie.Else1 = search in
     let start : tie.Start = search in
     let f = start .args .m .filter in
-    let l = taps-lengths _ _ _ (places e) in
+    let t = passed (e .before .has-tap-places .ensures) (e .if1 .left) in
+    let l = taps-lengths _ _ _ t in
     let cs = start .args .counts .now in
     let taps-kept = copied1 .copy .ensures ∙ copied-same (f .taps) (start .args .taps .now) (taps-are start ∙ sym (l .0)) in
     let samples-kept = copied2 .copy2 .ensures ∙ copied-same (f .samples) (start .args .samples .now) (samples-are start ∙ sym (l .1)) in
     let else2 : tie.Else2 = search in
-    made-accepted (madeView (start .args .m)) _ _ _ (places e) (else2 .if2 .left) taps-kept samples-kept
+    made-accepted (madeView (start .args .m)) _ _ _ t (else2 .if2 .left) taps-kept samples-kept
     (c .before .before .put-counts .ensures .1 ∙ cond-true (eqb (length cs) 3) (f .length ∷ f .held ∷ f .window ∷ []) cs (eq-eqb (length cs) 3 (l .2)))
 
 pub hand-out-taps-spec : {M : Type 1} → statement M

@@ -5,16 +5,9 @@ use Rattle.c_designs.proofs.Laws.{taps-last}
 use Rattle.c_designs.proofs.has_tap_places.Statement.{statement}
 use Rattle.c_designs.proofs.has_tap_places.Tie as tie
 
-returns : tie.Need-returns
-unfolding tapsPlaces
-returns c = simp (ne-eqb _ _ (c .if1 .taken))
-
-returns-2 : tie.Need-returns-2
-unfolding tapsPlaces
-returns-2 c = simp (eq-eqb _ _ (c .before .if1 .left), ne-eqb _ _ (c .if2 .taken))
-
-returns-3 : tie.Need-returns-3
-returns-3 c = taps-last _ _ _ (c .before .if1 .left) (c .if2 .left)
-
 pub has-tap-places-spec : {M : Type 1} → statement M
-has-tap-places-spec = tie.close (tie.spec returns returns-2 returns-3)
+has-tap-places-spec =
+    tie.close
+    (tie.spec (λ c. unfold tapsPlaces in simp (ne-eqb _ _ (c .if1 .taken)))
+    (λ c. unfold tapsPlaces in simp (eq-eqb _ _ (c .before .if1 .left), ne-eqb _ _ (c .if2 .taken)))
+    (λ c. taps-last _ _ _ (c .before .if1 .left) (c .if2 .left)))

@@ -1,6 +1,5 @@
 -- `c_layout::write` meets its contract.
-use mathlib.Core.Path.{_≡_, sym, _∙_}
-use mathlib.Core.Bool.{true}
+use mathlib.Core.Path.{sym, _∙_}
 use borrow.Author.Tests.{not-true, not-false}
 use Rattle.cascade.specs.View.{cascadeView}
 use Rattle.c_layout.specs.Layout.{cascadePlaces, cascadeNumbers, cascadeCounts}
@@ -9,10 +8,6 @@ use Rattle.c_layout.proofs.Laws.{places-lengths}
 use borrow.Author.Needs.{needs}
 use Rattle.c_layout.proofs.write.Statement.{statement}
 use Rattle.c_layout.proofs.write.Tie as tie
-
-places : (e : tie.Else1) → cascadePlaces (e .before .before .before .before .before .before .args .numbers .now)
-    (e .before .before .before .before .before .before .args .counts .now) ≡ true
-places e = sym (e .before .has-places .ensures) ∙ not-false _ (e .if1 .left)
 
 returns : tie.Need-returns
 returns c = let start : tie.Start = search in
@@ -26,7 +21,7 @@ returns c = let start : tie.Start = search in
     )
 
 put-cascade-requires : tie.Need-put-cascade-requires
-put-cascade-requires c κs = places-lengths _ _ (places (c .before .before))
+put-cascade-requires c κs = let e = c .before .before in places-lengths _ _ (sym (e .before .has-places .ensures) ∙ not-false _ (e .if1 .left))
 
 returns-2 : tie.Need-returns-2
 returns-2 c = let else1 : tie.Else1 = search in
@@ -34,7 +29,7 @@ returns-2 c = let else1 : tie.Else1 = search in
     let a = start .args in
     let ns = a .numbers .now in
     let cs = a .counts .now in
-    let t = places else1 in
+    let t = sym (else1 .before .has-places .ensures) ∙ not-false _ (else1 .if1 .left) in
     let p = c .before .before .before .before .put-cascade .ensures in (
       sym t,
       p .0 ∙ sym (cond-true (cascadePlaces ns cs) (cascadeNumbers (cascadeView (a .c))) ns t),

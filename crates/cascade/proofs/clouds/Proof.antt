@@ -4,12 +4,8 @@ use borrow.Author.Needs.{needs}
 use Rattle.cascade.proofs.clouds.Statement.{statement}
 use Rattle.cascade.proofs.clouds.Tie as tie
 
-returns : tie.Need-returns
-returns c = simp (c .if1 .taken)
-
-returns-2 : tie.Need-returns-2
-unfolding clouding
-returns-2 c = simp (c .before .if1 .left, c .is-finite .ensures)
-
 pub clouds-spec : {M : Type 1} → statement M
-clouds-spec = tie.close (tie.spec returns (λ c κs. search needs) returns-2)
+clouds-spec =
+    tie.close
+    (tie.spec (λ c. simp (c .if1 .taken)) (λ c κs. search needs)
+    (λ c. unfold clouding in simp (c .before .if1 .left, c .is-finite .ensures)))

@@ -5,8 +5,5 @@ use Rattle.cascade_theory.proofs.Forgetting.{forgets}
 use Rattle.claims.proofs.cascade_forgets.Statement.{statement}
 use Rattle.claims.proofs.cascade_forgets.Tie as tie
 
-returns : tie.Need-returns
-returns c = record { of = forgets binary64 (cascadeView (c .args .start)) }
-
 pub cascade-forgets-spec : {M : Type 1} → statement M
-cascade-forgets-spec = tie.close (tie.spec returns)
+cascade-forgets-spec = tie.close (tie.spec (λ c. record { of = forgets binary64 (cascadeView (c .args .start)) }))

@@ -3,8 +3,5 @@ use Rattle.logarithm.proofs.Digits.{splits}
 use Rattle.claims.proofs.ln_splits.Statement.{statement}
 use Rattle.claims.proofs.ln_splits.Tie as tie
 
-returns : tie.Need-returns
-returns c = record { at = splits }
-
 pub ln-splits-spec : {M : Type 1} → statement M
-ln-splits-spec = tie.close (tie.spec returns)
+ln-splits-spec = tie.close (tie.spec (λ c. record { at = splits }))

@@ -3,8 +3,5 @@ use Rattle.elementary.proofs.Rest.{nearest-whole}
 use Rattle.claims.proofs.nearest_is_nearest.Statement.{statement}
 use Rattle.claims.proofs.nearest_is_nearest.Tie as tie
 
-returns : tie.Need-returns
-returns c = record { at = nearest-whole }
-
 pub nearest-is-nearest-spec : {M : Type 1} → statement M
-nearest-is-nearest-spec = tie.close (tie.spec returns)
+nearest-is-nearest-spec = tie.close (tie.spec (λ c. record { at = nearest-whole }))

@@ -7,13 +7,8 @@ use borrow.Author.Needs.{needs}
 use Rattle.design_bandpass.proofs.imaginary_root.Statement.{statement}
 use Rattle.design_bandpass.proofs.imaginary_root.Tie as tie
 
-returns : tie.Need-returns
-unfolding imaginaryRoot
-returns c = rw (ap (lt plusZero) (sym (c .before .abs .ensures)) ∙ c .if1 .taken)
-
-returns-2 : tie.Need-returns-2
-unfolding imaginaryRoot
-returns-2 c = rw (ap (lt plusZero) (sym (c .before .abs .ensures)) ∙ c .if1 .left)
-
 pub imaginary-root-spec : {M : Type 1} → statement M
-imaginary-root-spec = tie.close (tie.spec (λ c κs. search needs) returns returns-2)
+imaginary-root-spec =
+    tie.close
+    (tie.spec (λ c κs. search needs) (λ c. unfold imaginaryRoot in rw (ap (lt plusZero) (sym (c .before .abs .ensures)) ∙ c .if1 .taken))
+    (λ c. unfold imaginaryRoot in rw (ap (lt plusZero) (sym (c .before .abs .ensures)) ∙ c .if1 .left)))

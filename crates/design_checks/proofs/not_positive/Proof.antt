@@ -1,17 +1,8 @@
 -- `design_checks::not_positive` meets its contract.
-use mathlib.Core.Path.{_∙_}
 use Rattle.scalar.proofs.Signs.{nan-test}
 use Rattle.design_checks.specs.Checks.{notPositive}
 use Rattle.design_checks.proofs.not_positive.Statement.{statement}
 use Rattle.design_checks.proofs.not_positive.Tie as tie
 
-returns : tie.Need-returns
-unfolding notPositive
-returns c = rw (nan-test _ ∙ c .if1 .taken)
-
-returns-2 : tie.Need-returns-2
-unfolding notPositive
-returns-2 c = rw (nan-test _ ∙ c .if1 .left)
-
 pub not-positive-spec : {M : Type 1} → statement M
-not-positive-spec = tie.close (tie.spec returns returns-2)
+not-positive-spec = tie.close (tie.spec (λ c. unfold notPositive in rw nan-test))

@@ -5,28 +5,14 @@ use borrow.Author.Needs.{needs}
 use Rattle.design_request.proofs.check_request.Statement.{statement}
 use Rattle.design_request.proofs.check_request.Tie as tie
 
-returns : tie.Need-returns
-returns c = c .validate-params .ensures ∙ sym (ap checkRequest (c .before .before .request .given .1))
-
-returns-2 : tie.Need-returns-2
-returns-2 c = c .validate-params2 .ensures ∙ sym (ap checkRequest (c .before .before .request2 .given .1))
-
-returns-3 : tie.Need-returns-3
-returns-3 c = c .validate-band .ensures ∙ sym (ap checkRequest (c .before .before .request3 .given .1))
-
-returns-4 : tie.Need-returns-4
-returns-4 c = c .validate-chebyshev .ensures ∙ sym (ap checkRequest (c .before .before .request4 .given .1))
-
-returns-5 : tie.Need-returns-5
-returns-5 c = c .validate-chebyshev2 .ensures ∙ sym (ap checkRequest (c .before .before .request5 .given .1))
-
-returns-6 : tie.Need-returns-6
-returns-6 c = c .validate-fir .ensures ∙ sym (ap checkRequest (c .before .before .request6 .given .1))
-
 pub check-request-spec : {M : Type 1} → statement M
 check-request-spec =
     tie.close
     (tie.spec (λ c. search needs) (λ c κs. search needs) (λ c. search needs) (λ c κs. search needs) (λ c. search needs)
     (λ c κs. search needs) (λ c. search needs) (λ c κs. search needs) (λ c. search needs) (λ c κs. search needs) (λ c. search needs)
-    (λ c κs. search needs) returns returns-2 returns-3 returns-4 returns-5
-    returns-6)
+    (λ c κs. search needs) (λ c. c .validate-params .ensures ∙ sym (ap checkRequest (c .before .before .request .given .1)))
+    (λ c. c .validate-params2 .ensures ∙ sym (ap checkRequest (c .before .before .request2 .given .1)))
+    (λ c. c .validate-band .ensures ∙ sym (ap checkRequest (c .before .before .request3 .given .1)))
+    (λ c. c .validate-chebyshev .ensures ∙ sym (ap checkRequest (c .before .before .request4 .given .1)))
+    (λ c. c .validate-chebyshev2 .ensures ∙ sym (ap checkRequest (c .before .before .request5 .given .1)))
+    (λ c. c .validate-fir .ensures ∙ sym (ap checkRequest (c .before .before .request6 .given .1))))

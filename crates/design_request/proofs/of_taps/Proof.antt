@@ -3,8 +3,5 @@ use borrow.Author.Needs.{needs}
 use Rattle.design_request.proofs.of_taps.Statement.{statement}
 use Rattle.design_request.proofs.of_taps.Tie as tie
 
-returns : tie.Need-returns
-returns c = rw (c .blank .ensures)
-
 pub of-taps-spec : {M : Type 1} → statement M
-of-taps-spec = tie.close (tie.spec (λ c κs. search needs) returns)
+of-taps-spec = tie.close (tie.spec (λ c κs. search needs) (λ c. rw (c .blank .ensures)))

@@ -22,8 +22,11 @@ use Rattle.fir_block.proofs.block.Statement.{statement}
 use Rattle.fir_block.proofs.block.Tie as tie
 
 -- ---- a record that is not refused
+abbrev known : tie.Else1 → tie.After-slice-known2
+known e = e .before .before .before
+
 abbrev start : tie.Else1 → tie.Start
-start e = e .before .before .before .before .before .before .before
+start e = known e .before .before .before .before
 
 abbrev lent-of : tie.Else1 → TapsRecord
 lent-of e = let a = start e .args in lentTaps (a .taps .now) (a .samples .now) (a .n) (a .held) (a .window)
@@ -65,18 +68,18 @@ returns-3 c = let after-pass-some : tie.After-pass-some = search in
     ∙ sym (lent-block (fir maxTaps binary64) (fits maxTaps) _ _ _ (good (else1 j) .0))
 
 -- ---- the record after the first samples is full
-abbrev joined : tie.Else4 → tie.Joined3
-joined q = q .before .before .before .before .before .before .before .before
+abbrev front : tie.Else4 → tie.After-pass-some
+front q = q .before .before .before .before .before
 
-full : (q : tie.Else4)
-    → (checkTaps maxTaps (lentTaps (start (else1 (joined q)) .args .taps .now) (q .before .before .before .before .before .pass-some .last .1 .0)
-    (start (else1 (joined q)) .args .n) (q .before .before .before .before .before .pass-some .result .held) (start (else1 (joined q)) .args .window))
-    ≡ true)
-    × (q .before .before .before .before .before .pass-some .result .held ≡ start (else1 (joined q)) .args .n)
-    × (length (q .before .before .before .before .before .pass-some .last .1 .1 .1 .1 .1 .1 .1 .0) ≡ length (start (else1 (joined q)) .args .output .now))
+abbrev joined : tie.Else4 → tie.Joined3
+joined q = front q .before .before .before
+
+full : (q : tie.Else4) → let a = start (else1 (joined q)) .args in let p = front q .pass-some in
+    (checkTaps maxTaps (lentTaps (a .taps .now) (p .last .1 .0) (a .n) (p .result .held) (a .window)) ≡ true)
+    × (p .result .held ≡ a .n) × (length (p .last .1 .1 .1 .1 .1 .1 .1 .0) ≡ length (a .output .now))
 full q = let j = joined q in
     front-full maxTaps binary64 (lent-of (else1 j)) _ _ (j .if3 .first) (good (else1 j) .1) (omega (arith, first-is j)) (room j)
-    (omega (arith, first-is j, q .if4 .left)) (q .before .before .before .before .before .pass-some .ensures)
+    (omega (arith, first-is j, q .if4 .left)) (front q .pass-some .ensures)
 
 pass-all-requires : tie.Need-pass-all-requires
 pass-all-requires c κs = let q = c .before .before in
@@ -90,25 +93,20 @@ pass-all-requires c κs = let q = c .before .before in
 abbrev rest : tie.After-pass-all → tie.Else4
 rest a = a .before .before .before
 
-both : (a : tie.After-pass-all)
-    → (rest a .before .before .before .before .before .pass-some .result .clouded + a .pass-all .result ≤ length
-    (start (else1 (joined (rest a))) .args .input .now))
-    × (ranBlock (rest a .before .before .before .before .before .pass-some .result .clouded + a .pass-all .result)
-    (lentTaps (start (else1 (joined (rest a))) .args .taps .now) (a .pass-all .last .1 .0) (start (else1 (joined (rest a))) .args .n)
-    (rest a .before .before .before .before .before .pass-some .result .held) (start (else1 (joined (rest a))) .args .window))
-    (a .pass-all .last .1 .1 .1 .1 .1 .0)
-    ≡ block (fir maxTaps binary64) (lent-of (else1 (joined (rest a)))) (start (else1 (joined (rest a))) .args .input .now)
-    (start (else1 (joined (rest a))) .args .output .now))
+both : (a : tie.After-pass-all) → let j = else1 (joined (rest a)) in let s = start j .args in let p = front (rest a) .pass-some .result in
+    (p .clouded + a .pass-all .result ≤ length (s .input .now))
+    × (ranBlock (p .clouded + a .pass-all .result) (lentTaps (s .taps .now) (a .pass-all .last .1 .0) (s .n) (p .held) (s .window))
+    (a .pass-all .last .1 .1 .1 .1 .1 .0) ≡ block (fir maxTaps binary64) (lent-of j) (s .input .now) (s .output .now))
 both a = let j = joined (rest a) in
     let f = full (rest a) in
     parts-join (lent-of (else1 j)) _ _ (j .if3 .first) (good (else1 j) .1) (omega (arith, first-is j)) (room j)
-    (rest a .before .before .before .before .before .pass-some .ensures) (f .0) (f .1) (a .pass-all .ensures)
+    (front (rest a) .pass-some .ensures) (f .0) (f .1) (a .pass-all .ensures)
 
 add-t17 : tie.Need-add-t17
 add-t17 c = let a : tie.After-pass-all = search in
     let q = rest a in
     let s = start (else1 (joined q)) in
-    let few : q .before .before .before .before .before .pass-some .result .clouded + a .pass-all .result ≤ length (s .args .input .now) = both a .0 in
+    let few : front q .pass-some .result .clouded + a .pass-all .result ≤ length (s .args .input .now) = both a .0 in
     omega arith
 
 returns-4 : tie.Need-returns-4

@@ -4,9 +4,7 @@ use borrow.Author.Needs.{needs}
 use Rattle.hyperbolic.proofs.cosh.Statement.{statement}
 use Rattle.hyperbolic.proofs.cosh.Tie as tie
 
-returns : tie.Need-returns
-unfolding coshOf
-returns c = rw (c .before .exp .ensures, c .exp2 .ensures)
-
 pub cosh-spec : {M : Type 1} → statement M
-cosh-spec = tie.close (tie.spec (λ c κs. search needs) (λ c κs. search needs) returns)
+cosh-spec =
+    tie.close
+    (tie.spec (λ c κs. search needs) (λ c κs. search needs) (λ c. unfold coshOf in rw (c .before .exp .ensures, c .exp2 .ensures)))

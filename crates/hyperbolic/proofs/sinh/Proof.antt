@@ -4,9 +4,7 @@ use borrow.Author.Needs.{needs}
 use Rattle.hyperbolic.proofs.sinh.Statement.{statement}
 use Rattle.hyperbolic.proofs.sinh.Tie as tie
 
-returns : tie.Need-returns
-unfolding sinhOf
-returns c = rw (c .before .exp .ensures, c .exp2 .ensures)
-
 pub sinh-spec : {M : Type 1} → statement M
-sinh-spec = tie.close (tie.spec (λ c κs. search needs) (λ c κs. search needs) returns)
+sinh-spec =
+    tie.close
+    (tie.spec (λ c κs. search needs) (λ c κs. search needs) (λ c. unfold sinhOf in rw (c .before .exp .ensures, c .exp2 .ensures)))

@@ -18,10 +18,6 @@ both x r h = (sqrt-unique binary64 x r (sqrtOf binary64 x) h (sqrtOf-correct bin
 own : (c : tie.Start) → ofBits binary64 (toBits binary64 (c .args .x)) ≡ c .args .x
 own c = ofBits-toBits binary64 (c .args .x) (subst T (sym (c .good .0 .1)) tt)
 
-float-from-bits-infinity : tie.Need-float-from-bits-infinity
-unfolding nanBits
-float-from-bits-infinity c = tt
-
 returns : tie.Need-returns
 unfolding ofBits sub
 returns c = both (c .before .args .x) _ (negative (c .before .args .x) _ (subst T (sym (c .if1 .taken)) tt) refl)
@@ -64,5 +60,4 @@ returns-4 c = both (c .before .before .args .x) _ (neither (c .before .before .a
 pub sqrt-spec : {M : Type 1} → statement M
 sqrt-spec =
     tie.close
-    (tie.spec float-from-bits-infinity returns float-to-bits-b root-bits-requires
-    float-from-bits-result returns-2 returns-3 returns-4)
+    (tie.spec (λ c. unfold nanBits in tt) returns float-to-bits-b root-bits-requires float-from-bits-result returns-2 returns-3 returns-4)

@@ -5,11 +5,8 @@ use borrow.Author.Needs.{needs}
 use Rattle.logarithm.proofs.significand.Statement.{statement}
 use Rattle.logarithm.proofs.significand.Tie as tie
 
-float-from-bits-result : tie.Need-float-from-bits-result
-float-from-bits-result c = below-no-nan _ (made-hi 1022 (c .args .q) (c .pre .1) (lit< tt))
-
-returns : tie.Need-returns
-returns c = made 1022 (c .args .q) (c .pre .0) (c .pre .1) (lit< tt)
-
 pub significand-spec : {M : Type 1} → statement M
-significand-spec = tie.close (tie.spec (λ c. search needs) (λ c. search needs) float-from-bits-result returns)
+significand-spec =
+    tie.close
+    (tie.spec (λ c. search needs) (λ c. search needs) (λ c. below-no-nan _ (made-hi 1022 (c .args .q) (c .pre .1) (lit< tt)))
+    (λ c. made 1022 (c .args .q) (c .pre .0) (c .pre .1) (lit< tt)))

@@ -11,7 +11,9 @@ abbrev μ-loop : tie.MeasureT-loop
 μ-loop fd counts₀ agreed₀ cascade₀ filter₀ good₀ left₀ counts agreed cascade filter good left = left
 
 loop-less : tie.Need-loop-less Inv-loop μ-loop
-loop-less c = omega (arith, c .before .before .before .before .before .before .before .before .before .before .before .before .before .before .before .before .loop-test .taken)
+loop-less c = let read : tie.After-read-request Inv-loop μ-loop = search in
+    let taken : tie.In-loop Inv-loop μ-loop = search in
+    omega (arith, taken .loop-test .taken)
 
 pub replay-spec : {M : Type 1} → statement M
 replay-spec =

@@ -4,9 +4,5 @@ use borrow.Author.Needs.{needs}
 use Rattle.series.proofs.cos_rest.Statement.{statement}
 use Rattle.series.proofs.cos_rest.Tie as tie
 
-returns : tie.Need-returns
-unfolding cosRest
-returns c = rw (c .alternating .ensures)
-
 pub cos-rest-spec : {M : Type 1} → statement M
-cos-rest-spec = tie.close (tie.spec (λ c κs. search needs) returns)
+cos-rest-spec = tie.close (tie.spec (λ c κs. search needs) (λ c. unfold cosRest in rw (c .alternating .ensures)))

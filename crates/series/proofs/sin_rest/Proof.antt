@@ -4,9 +4,5 @@ use borrow.Author.Needs.{needs}
 use Rattle.series.proofs.sin_rest.Statement.{statement}
 use Rattle.series.proofs.sin_rest.Tie as tie
 
-returns : tie.Need-returns
-unfolding sinRest
-returns c = rw (c .alternating .ensures)
-
 pub sin-rest-spec : {M : Type 1} → statement M
-sin-rest-spec = tie.close (tie.spec (λ c κs. search needs) returns)
+sin-rest-spec = tie.close (tie.spec (λ c κs. search needs) (λ c. unfold sinRest in rw (c .alternating .ensures)))

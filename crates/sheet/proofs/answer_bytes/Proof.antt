@@ -6,11 +6,8 @@ use borrow.Author.Needs.{needs}
 use Rattle.sheet.proofs.answer_bytes.Statement.{statement}
 use Rattle.sheet.proofs.answer_bytes.Tie as tie
 
-slice-aggregate-answer-line : tie.Need-slice-aggregate-answer-line
-slice-aggregate-answer-line c = sym (length-take-le _ _ (omega arith))
-
 pub answer-bytes-spec : {M : Type 1} → statement M
 answer-bytes-spec =
     tie.close
     (tie.spec (λ c κs. search needs) (λ c. search needs) (λ c. search needs) (λ c κs. search needs) (λ c. search needs) (λ c. search needs)
-    slice-aggregate-answer-line (λ c κs. search needs) (λ c. search needs) (λ c. search needs))
+    (λ c. sym (length-take-le _ _ (omega arith))) (λ c κs. search needs) (λ c. search needs) (λ c. search needs))

@@ -13,13 +13,10 @@ Inv-loop chunk line₀ output₀ s₀ at₀ line output s at = (at ≤ length ch
 abbrev μ-loop : tie.MeasureT-loop
 μ-loop chunk line₀ output₀ s₀ at₀ line output s at = length chunk + 1 - at
 
-add-at : tie.Need-add-at Inv-loop μ-loop
-add-at c = omega (arith, c .before .before .before .before)
-
 pub answer-chunk-spec : {M : Type 1} → statement M
 answer-chunk-spec =
     tie.close
     (tie.spec Inv-loop μ-loop (λ c. search needs) (λ c κs. search needs) (λ c. search needs) (λ c. search needs) (λ c. search needs)
     (λ c κs. search needs) (λ c κs. search needs) (λ c. search needs) (λ c. search needs) (λ c. search needs) (λ c κs. search needs)
-    (λ c κs. search needs) add-at (λ c. search needs) (λ c. search needs) (λ c κs. search needs) (λ c. search needs) (λ c. search needs)
-    (λ c. search needs))
+    (λ c κs. search needs) (λ c. omega (arith, c .before .before .before .before)) (λ c. search needs) (λ c. search needs)
+    (λ c κs. search needs) (λ c. search needs) (λ c. search needs) (λ c. search needs))

@@ -3,9 +3,8 @@ use borrow.Author.Needs.{needs}
 use Rattle.steps.proofs.place.Statement.{statement}
 use Rattle.steps.proofs.place.Tie as tie
 
-returns-3 : tie.Need-returns-3
-returns-3 c = rw (c .enum-told .given .1)
-
 pub place-spec : {M : Type 1} → statement M
 place-spec =
-    tie.close (tie.spec (λ c. search needs) (λ c. search needs) (λ c. search needs) (λ c. search needs) (λ c. search needs) returns-3)
+    tie.close
+    (tie.spec (λ c. search needs) (λ c. search needs) (λ c. search needs) (λ c. search needs) (λ c. search needs)
+    (λ c. rw (c .enum-told .given .1)))

@@ -1,47 +1,27 @@
--- `c_blocks::cascade_block_in_place` meets its contract.
-use mathlib.Core.Path.{ap, _∙_}
-use mathlib.Core.List.{List}
-use lib.Ieee.{Float}
-use borrow.Author.Needs.{needs}
-use Rattle.c_calls.specs.Kinds.{cascadeKind}
-use Rattle.c_calls.specs.Calls.{blockInPlaceCall}
+-- `c_blocks::cascades::cascade_block_in_place` meets its contract.
 use Rattle.c_calls.proofs.Back.{cascade-read-back}
-use Rattle.c_blocks.proofs.InPlace.{empty-refused, empty-accepted}
+use Rattle.c_blocks.proofs.InPlace.{empty-refused, empty-ready, empty-then}
+use borrow.Author.Needs.{needs}
 use Rattle.c_blocks.proofs.cascades.cascade_block_in_place.Statement.{statement}
 use Rattle.c_blocks.proofs.cascades.cascade_block_in_place.Tie as tie
 
 returns : tie.Need-returns
-returns c =
-    let empty : tie.After-cascade-block = search in
-    let start : tie.Start = search in
-    let a = start .args in
-    empty-refused cascadeKind cascade-read-back (a .numbers .now) (a .counts .now) (a .buffer .now) (a .clouded .now) (empty .cascade-block .ensures)
-    (c .if1 .taken)
+returns c = let empty : tie.After-cascade-block = search in empty-refused _ cascade-read-back _ _ _ _ (empty .cascade-block .ensures) (c .if1 .taken)
 
-parts-requires : tie.Need-cascade-parts-requires
-parts-requires c κs =
-    let taken : tie.Else1 = search in
+cascade-parts-requires : tie.Need-cascade-parts-requires
+cascade-parts-requires c κs = let accepted : tie.Else1 = search in
     let empty : tie.After-cascade-block = search in
-    let start : tie.Start = search in
-    let a = start .args in
-    empty-accepted cascadeKind cascade-read-back (a .numbers .now) (a .counts .now) (a .buffer .now) (a .clouded .now) (empty .cascade-block .ensures)
-    (taken .if1 .left) .ready
+    empty-ready _ cascade-read-back _ _ _ _ (empty .cascade-block .ensures) (accepted .if1 .left)
 
 returns-2 : tie.Need-returns-2
-returns-2 c =
-    let ran : tie.After-cascade-parts = search in
-    let taken : tie.Else1 = search in
+returns-2 c = let ran : tie.After-cascade-parts = search in
+    let accepted : tie.Else1 = search in
     let empty : tie.After-cascade-block = search in
-    let start : tie.Start = search in
-    let a = start .args in
-    let b = empty .cascade-block in
-    let f = empty-accepted cascadeKind cascade-read-back (a .numbers .now) (a .counts .now) (a .buffer .now) (a .clouded .now) (b .ensures)
-    (taken .if1 .left) in
-    ran .cascade-parts .ensures ∙ ap (λ (l : List Float). blockInPlaceCall cascadeKind (b .last .0) (b .last .1 .0) l (b .last .1 .1 .1 .1 .0)) (f .same)
-    ∙ f .block
+    empty-then _ cascade-read-back _ _ _ _ (empty .cascade-block .ensures) (accepted .if1 .left) (ran .cascade-parts .ensures)
 
 pub cascade-block-in-place-spec : {M : Type 1} → statement M
 cascade-block-in-place-spec =
     tie.close
     (tie.spec (λ c. search needs) (λ c. search needs) (λ c κs. search needs) (λ c. search needs) (λ c. search needs) (λ c. search needs)
-    (λ c. search needs) returns parts-requires (λ c. search needs) (λ c. search needs) (λ c. search needs) (λ c. search needs) returns-2)
+    (λ c. search needs) returns cascade-parts-requires (λ c. search needs) (λ c. search needs) (λ c. search needs) (λ c. search needs)
+    returns-2)

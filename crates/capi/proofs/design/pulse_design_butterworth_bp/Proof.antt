@@ -4,8 +4,8 @@ use Rattle.capi.proofs.design.pulse_design_butterworth_bp.Statement.{st
 use Rattle.capi.proofs.design.pulse_design_butterworth_bp.Tie as tie
 
 returns : tie.Need-returns
-returns c = let after-design-butterworth-bp : tie.After-design-butterworth-bp = search in
-    rw (← after-design-butterworth-bp .design-butterworth-bp .ensures) (c .before .before .before .before .hand-out .ensures)
+returns c = let made : tie.After-design-butterworth-bp = search in
+    rw (← made .design-butterworth-bp .ensures) (c .before .before .before .before .hand-out .ensures)
 
 pub pulse-design-butterworth-bp-spec : {M : Type 1} → statement M
 pulse-design-butterworth-bp-spec =

@@ -4,8 +4,8 @@ use Rattle.capi.proofs.design.pulse_design_butterworth_hp.Statement.{st
 use Rattle.capi.proofs.design.pulse_design_butterworth_hp.Tie as tie
 
 returns : tie.Need-returns
-returns c = let after-design-butterworth-hp : tie.After-design-butterworth-hp = search in
-    rw (← after-design-butterworth-hp .design-butterworth-hp .ensures) (c .before .before .before .before .hand-out .ensures)
+returns c = let made : tie.After-design-butterworth-hp = search in
+    rw (← made .design-butterworth-hp .ensures) (c .before .before .before .before .hand-out .ensures)
 
 pub pulse-design-butterworth-hp-spec : {M : Type 1} → statement M
 pulse-design-butterworth-hp-spec =

@@ -4,8 +4,8 @@ use Rattle.capi.proofs.design.pulse_design_butterworth_lp.Statement.{st
 use Rattle.capi.proofs.design.pulse_design_butterworth_lp.Tie as tie
 
 returns : tie.Need-returns
-returns c = let after-design-butterworth-lp : tie.After-design-butterworth-lp = search in
-    rw (← after-design-butterworth-lp .design-butterworth-lp .ensures) (c .before .before .before .before .hand-out .ensures)
+returns c = let made : tie.After-design-butterworth-lp = search in
+    rw (← made .design-butterworth-lp .ensures) (c .before .before .before .before .hand-out .ensures)
 
 pub pulse-design-butterworth-lp-spec : {M : Type 1} → statement M
 pulse-design-butterworth-lp-spec =

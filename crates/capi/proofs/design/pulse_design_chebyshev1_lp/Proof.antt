@@ -4,8 +4,8 @@ use Rattle.capi.proofs.design.pulse_design_chebyshev1_lp.Statement.{sta
 use Rattle.capi.proofs.design.pulse_design_chebyshev1_lp.Tie as tie
 
 returns : tie.Need-returns
-returns c = let after-design-chebyshev1-lp : tie.After-design-chebyshev1-lp = search in
-    rw (← after-design-chebyshev1-lp .design-chebyshev1-lp .ensures) (c .before .before .before .before .hand-out .ensures)
+returns c = let made : tie.After-design-chebyshev1-lp = search in
+    rw (← made .design-chebyshev1-lp .ensures) (c .before .before .before .before .hand-out .ensures)
 
 pub pulse-design-chebyshev1-lp-spec : {M : Type 1} → statement M
 pulse-design-chebyshev1-lp-spec =

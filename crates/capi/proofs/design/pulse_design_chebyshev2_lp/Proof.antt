@@ -4,8 +4,8 @@ use Rattle.capi.proofs.design.pulse_design_chebyshev2_lp.Statement.{sta
 use Rattle.capi.proofs.design.pulse_design_chebyshev2_lp.Tie as tie
 
 returns : tie.Need-returns
-returns c = let after-design-chebyshev2-lp : tie.After-design-chebyshev2-lp = search in
-    rw (← after-design-chebyshev2-lp .design-chebyshev2-lp .ensures) (c .before .before .before .before .hand-out .ensures)
+returns c = let made : tie.After-design-chebyshev2-lp = search in
+    rw (← made .design-chebyshev2-lp .ensures) (c .before .before .before .before .hand-out .ensures)
 
 pub pulse-design-chebyshev2-lp-spec : {M : Type 1} → statement M
 pulse-design-chebyshev2-lp-spec =

@@ -15,12 +15,8 @@ int-to-float-result c = let a = c .before .args in let h = c .before .pre .1 .0 
 int-to-float-result-2 : tie.Need-int-to-float-result-2
 int-to-float-result-2 c = let a = c .before .before .args in let h = c .before .before .pre .1 .0 in small-float (2 * a .order) (omega arith)
 
-returns : tie.Need-returns
-unfolding angleOf
-returns c = refl
-
 pub angle-spec : {M : Type 1} → statement M
 angle-spec =
     tie.close
-    (tie.spec (λ c. search needs) (λ c. search needs) (λ c. search needs) (λ c. search needs) int-to-float-result
-    (λ c. search needs) int-to-float-result-2 returns)
+    (tie.spec (λ c. search needs) (λ c. search needs) (λ c. search needs) (λ c. search needs) int-to-float-result (λ c. search needs)
+    int-to-float-result-2 (λ c. unfold angleOf in refl))

@@ -4,9 +4,5 @@ use borrow.Author.Needs.{needs}
 use Rattle.design_cascade.proofs.butterworth.bp_cascade.Statement.{statement}
 use Rattle.design_cascade.proofs.butterworth.bp_cascade.Tie as tie
 
-returns : tie.Need-returns
-unfolding bpCascade
-returns c = rw (c .before .bp-sections .ensures, c .blank .ensures)
-
 pub bp-cascade-spec : {M : Type 1} → statement M
-bp-cascade-spec = tie.close (tie.spec (λ c κs. search needs) (λ c κs. search needs) returns)
+bp-cascade-spec = tie.close (tie.spec (λ c κs. search needs) (λ c κs. search needs) (λ c. unfold bpCascade in cc))

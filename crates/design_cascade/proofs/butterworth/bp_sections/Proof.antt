@@ -5,6 +5,7 @@ use native.Mathlib.Omega.{arith}
 use lib.ListN.{length}
 use borrow.Author.Needs.{needs}
 use borrow.Author.Tests.{eq-eqb, ne-eqb}
+use Rattle.limits.specs.Limits.{maxSections}
 use Rattle.sections.specs.View.{sectionView}
 use Rattle.design_cascade.specs.BandPass.{bpUpTo, bpSections}
 use Rattle.design_cascade.proofs.Places.{place, band-length}
@@ -23,7 +24,7 @@ returns-2 c = let s = c .before .before .before in
     let i : n - 1 ≡ length (bpUpTo n (s .args .bw) (s .args .omega0-sq) (n / 2)) = omega
     (arith, band-length n (s .args .bw) (s .args .omega0-sq) (n / 2), c .before .if1 .left, s .pre .0) in
     rw (ne-eqb _ _ (c .before .if1 .left))
-    (place sectionView (c .before .before .bp-sections-from-pairs .result) 4 (n - 1) (bpUpTo n (s .args .bw) (s .args .omega0-sq) (n / 2))
+    (place sectionView (c .before .before .bp-sections-from-pairs .result) maxSections (n - 1) (bpUpTo n (s .args .bw) (s .args .omega0-sq) (n / 2))
     (c .bp-biquad-from-lp-real-pole .result) _
     (c .before .before .bp-sections-from-pairs .ensures) i (omega arith) (c .bp-biquad-from-lp-real-pole .ensures))
 

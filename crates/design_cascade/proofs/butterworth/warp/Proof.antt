@@ -4,9 +4,5 @@ use borrow.Author.Needs.{needs}
 use Rattle.design_cascade.proofs.butterworth.warp.Statement.{statement}
 use Rattle.design_cascade.proofs.butterworth.warp.Tie as tie
 
-returns : tie.Need-returns
-unfolding warped
-returns c = c .tan .ensures
-
 pub warp-spec : {M : Type 1} → statement M
-warp-spec = tie.close (tie.spec (λ c κs. search needs) returns)
+warp-spec = tie.close (tie.spec (λ c κs. search needs) (λ c. unfold warped in c .tan .ensures))

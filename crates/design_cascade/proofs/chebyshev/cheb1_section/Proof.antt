@@ -2,7 +2,6 @@
 use mathlib.Core.Path.{_∙_, ap}
 use Rattle.design_poles.specs.Chebyshev.{cheb1Biquad}
 use Rattle.design_cascade.specs.Chebyshev.{PolePairRecord, cheb1Pair}
-use Rattle.design_cascade.specs.Chebyshev.{cheb1Pair}
 use borrow.Author.Needs.{needs}
 use Rattle.design_cascade.proofs.chebyshev.cheb1_section.Statement.{statement}
 use Rattle.design_cascade.proofs.chebyshev.cheb1_section.Tie as tie

@@ -6,7 +6,6 @@ use Rattle.scalar.specs.Constants.{one}
 use Rattle.scalar.specs.Sign.{absOf}
 use Rattle.design_poles.specs.Chebyshev.{cheb2Biquad}
 use Rattle.design_cascade.specs.Chebyshev.{PolePairRecord, cheb2Pair}
-use Rattle.design_cascade.specs.Chebyshev.{cheb2Pair}
 use borrow.Author.Needs.{needs}
 use Rattle.design_cascade.proofs.chebyshev.cheb2_section.Statement.{statement}
 use Rattle.design_cascade.proofs.chebyshev.cheb2_section.Tie as tie

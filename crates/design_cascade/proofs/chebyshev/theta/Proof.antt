@@ -8,15 +8,9 @@ use borrow.Author.Needs.{needs}
 use Rattle.design_cascade.proofs.chebyshev.theta.Statement.{statement}
 use Rattle.design_cascade.proofs.chebyshev.theta.Tie as tie
 
-int-to-float-result : tie.Need-int-to-float-result
-int-to-float-result c = let h = c .before .pre .1 in small-float (2 * c .before .args .m + 1) (omega arith)
-
-int-to-float-result-2 : tie.Need-int-to-float-result-2
-int-to-float-result-2 c = let h = c .before .before .pre .0 in small-float (c .before .before .args .order) (omega arith)
-
-returns : tie.Need-returns
-unfolding thetaOf
-returns c = refl
-
 pub theta-spec : {M : Type 1} → statement M
-theta-spec = tie.close (tie.spec (λ c. search needs) (λ c. search needs) int-to-float-result int-to-float-result-2 returns)
+theta-spec =
+    tie.close
+    (tie.spec (λ c. search needs) (λ c. search needs)
+    (λ c. let h = c .before .pre .1 in small-float (2 * c .before .args .m + 1) (omega arith))
+    (λ c. let h = c .before .before .pre .0 in small-float (c .before .before .args .order) (omega arith)) (λ c. unfold thetaOf in refl))

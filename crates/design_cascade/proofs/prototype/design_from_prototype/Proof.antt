@@ -4,9 +4,5 @@ use borrow.Author.Needs.{needs}
 use Rattle.design_cascade.proofs.prototype.design_from_prototype.Statement.{statement}
 use Rattle.design_cascade.proofs.prototype.design_from_prototype.Tie as tie
 
-returns : tie.Need-returns
-unfolding prototypeCascade
-returns c = rw (c .before .sections-from-pairs .ensures, c .first-from-pole .ensures)
-
 pub design-from-prototype-spec : {M : Type 1} → statement M
-design-from-prototype-spec = tie.close (tie.spec (λ c κs. search needs) (λ c κs. search needs) returns)
+design-from-prototype-spec = tie.close (tie.spec (λ c κs. search needs) (λ c κs. search needs) (λ c. unfold prototypeCascade in cc))

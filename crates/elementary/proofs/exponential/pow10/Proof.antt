@@ -4,9 +4,5 @@ use borrow.Author.Needs.{needs}
 use Rattle.elementary.proofs.exponential.pow10.Statement.{statement}
 use Rattle.elementary.proofs.exponential.pow10.Tie as tie
 
-returns : tie.Need-returns
-unfolding pow10Of
-returns c = rw (c .exp .ensures)
-
 pub pow10-spec : {M : Type 1} → statement M
-pow10-spec = tie.close (tie.spec (λ c κs. search needs) returns)
+pow10-spec = tie.close (tie.spec (λ c κs. search needs) (λ c. unfold pow10Of in rw (c .exp .ensures)))

@@ -5,18 +5,6 @@ use borrow.Author.Needs.{needs}
 use Rattle.elementary.proofs.trigonometric.cos_in.Statement.{statement}
 use Rattle.elementary.proofs.trigonometric.cos_in.Tie as tie
 
-returns : tie.Need-returns
-unfolding cosAt
-returns c = rw (c .before .match .keys1, c .cos-rest .ensures)
-
-returns-2 : tie.Need-returns-2
-unfolding cosAt
-returns-2 c = rw (c .before .match .keys2, c .sin-rest .ensures)
-
-returns-3 : tie.Need-returns-3
-unfolding cosAt
-returns-3 c = rw (c .before .match .keys3, c .cos-rest2 .ensures)
-
 returns-4 : tie.Need-returns-4
 unfolding cosAt
 returns-4 c = rw (
@@ -27,5 +15,7 @@ returns-4 c = rw (
 pub cos-in-spec : {M : Type 1} → statement M
 cos-in-spec =
     tie.close
-    (tie.spec (λ c κs. search needs) (λ c κs. search needs) (λ c κs. search needs) (λ c κs. search needs) returns
-    returns-2 returns-3 returns-4)
+    (tie.spec (λ c κs. search needs) (λ c κs. search needs) (λ c κs. search needs) (λ c κs. search needs)
+    (λ c. unfold cosAt in rw (c .before .match .keys1, c .cos-rest .ensures))
+    (λ c. unfold cosAt in rw (c .before .match .keys2, c .sin-rest .ensures))
+    (λ c. unfold cosAt in rw (c .before .match .keys3, c .cos-rest2 .ensures)) returns-4)

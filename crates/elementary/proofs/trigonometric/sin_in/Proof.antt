@@ -5,18 +5,6 @@ use borrow.Author.Needs.{needs}
 use Rattle.elementary.proofs.trigonometric.sin_in.Statement.{statement}
 use Rattle.elementary.proofs.trigonometric.sin_in.Tie as tie
 
-returns : tie.Need-returns
-unfolding sinAt
-returns c = rw (c .before .match .keys1, c .sin-rest .ensures)
-
-returns-2 : tie.Need-returns-2
-unfolding sinAt
-returns-2 c = rw (c .before .match .keys2, c .cos-rest .ensures)
-
-returns-3 : tie.Need-returns-3
-unfolding sinAt
-returns-3 c = rw (c .before .match .keys3, c .sin-rest2 .ensures)
-
 returns-4 : tie.Need-returns-4
 unfolding sinAt
 returns-4 c = rw (
@@ -27,5 +15,7 @@ returns-4 c = rw (
 pub sin-in-spec : {M : Type 1} → statement M
 sin-in-spec =
     tie.close
-    (tie.spec (λ c κs. search needs) (λ c κs. search needs) (λ c κs. search needs) (λ c κs. search needs) returns
-    returns-2 returns-3 returns-4)
+    (tie.spec (λ c κs. search needs) (λ c κs. search needs) (λ c κs. search needs) (λ c κs. search needs)
+    (λ c. unfold sinAt in rw (c .before .match .keys1, c .sin-rest .ensures))
+    (λ c. unfold sinAt in rw (c .before .match .keys2, c .cos-rest .ensures))
+    (λ c. unfold sinAt in rw (c .before .match .keys3, c .sin-rest2 .ensures)) returns-4)

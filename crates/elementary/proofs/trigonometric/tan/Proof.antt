@@ -4,9 +4,6 @@ use borrow.Author.Needs.{needs}
 use Rattle.elementary.proofs.trigonometric.tan.Statement.{statement}
 use Rattle.elementary.proofs.trigonometric.tan.Tie as tie
 
-returns : tie.Need-returns
-unfolding tanOf
-returns c = rw (c .before .sin .ensures, c .cos .ensures)
-
 pub tan-spec : {M : Type 1} → statement M
-tan-spec = tie.close (tie.spec (λ c κs. search needs) (λ c κs. search needs) returns)
+tan-spec =
+    tie.close (tie.spec (λ c κs. search needs) (λ c κs. search needs) (λ c. unfold tanOf in rw (c .before .sin .ensures, c .cos .ensures)))

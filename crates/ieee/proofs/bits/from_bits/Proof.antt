@@ -10,11 +10,8 @@ zero-over-zero : div binary64 (ofBits binary64 0) (ofBits binary64 0) ≡ nan
 unfolding div ofBits
 zero-over-zero = refl
 
-returns : tie.Need-returns
-returns c = zero-over-zero ∙ sym (nan-pattern (c .before .args .b) (c .if1 .taken))
-
-float-from-bits-result : tie.Need-float-from-bits-result
-float-from-bits-result c = number-pattern (c .before .args .b) (c .if1 .left)
-
 pub from-bits-spec : {M : Type 1} → statement M
-from-bits-spec = tie.close (tie.spec returns float-from-bits-result (λ c. search needs))
+from-bits-spec =
+    tie.close
+    (tie.spec (λ c. zero-over-zero ∙ sym (nan-pattern (c .before .args .b) (c .if1 .taken)))
+    (λ c. number-pattern (c .before .args .b) (c .if1 .left)) (λ c. search needs))

@@ -6,12 +6,8 @@ use borrow.Author.Needs.{needs}
 use Rattle.ieee.proofs.bits.to_bits.Statement.{statement}
 use Rattle.ieee.proofs.bits.to_bits.Tie as tie
 
-returns : tie.Need-returns
-unfolding toBits
-returns c = sym (ap (toBits binary64) (differs-nan (c .before .args .x) (c .if1 .taken)))
-
-float-to-bits-result : tie.Need-float-to-bits-result
-float-to-bits-result c = same-number (c .before .args .x) (c .if1 .left)
-
 pub to-bits-spec : {M : Type 1} → statement M
-to-bits-spec = tie.close (tie.spec returns float-to-bits-result (λ c. search needs))
+to-bits-spec =
+    tie.close
+    (tie.spec (λ c. unfold toBits in sym (ap (toBits binary64) (differs-nan (c .before .args .x) (c .if1 .taken))))
+    (λ c. same-number (c .before .args .x) (c .if1 .left)) (λ c. search needs))

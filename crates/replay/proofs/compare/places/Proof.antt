@@ -13,11 +13,8 @@ Inv-loop xs₀ x₀ i₀ xs x i = (i ≤ 256) × (256 ≡ length xs)
 abbrev μ-loop : tie.MeasureT-loop
 μ-loop xs₀ x₀ i₀ xs x i = 256 - i
 
-loop-again : tie.Need-loop-again Inv-loop μ-loop
-loop-again c = rw length-set (search needs)
-
 pub places-spec : {M : Type 1} → statement M
 places-spec =
     tie.close
-    (tie.spec Inv-loop μ-loop (λ c. search needs) (λ c. omega arith) (λ c. omega arith) (λ c. omega arith) (λ c. omega arith) loop-again
-    (λ c. search needs))
+    (tie.spec Inv-loop μ-loop (λ c. search needs) (λ c. omega arith) (λ c. omega arith) (λ c. omega arith) (λ c. omega arith)
+    (λ c. rw length-set (search needs)) (λ c. search needs))

@@ -19,13 +19,8 @@ not-below nan p = refl
 not-below (inf s) p = refl
 not-below (fin s m e) p = absurd (true≢false p)
 
-returns : tie.Need-returns
-unfolding neg div ofBits
-returns c = above (c .before .args .x) (c .if1 .taken)
-
-returns-2 : tie.Need-returns-2
-unfolding div ofBits
-returns-2 c = not-below (c .before .args .x) (c .if1 .left)
-
 pub is-finite-spec : {M : Type 1} → statement M
-is-finite-spec = tie.close (tie.spec returns returns-2)
+is-finite-spec =
+    tie.close
+    (tie.spec (λ c. unfold neg div ofBits in above (c .before .args .x) (c .if1 .taken))
+    (λ c. unfold div ofBits in not-below (c .before .args .x) (c .if1 .left)))

@@ -6,11 +6,8 @@ use borrow.Author.Needs.{needs}
 use Rattle.sheet.proofs.filters.answer_taps.Statement.{statement}
 use Rattle.sheet.proofs.filters.answer_taps.Tie as tie
 
-slice-aggregate-answer-ready-made : tie.Need-slice-aggregate-answer-ready-made
-slice-aggregate-answer-ready-made c = sym (length-take-le _ _ (omega arith))
-
 pub answer-taps-spec : {M : Type 1} → statement M
 answer-taps-spec =
     tie.close
     (tie.spec (λ c κs. search needs) (λ c κs. search needs) (λ c. search needs) (λ c. search needs) (λ c. search needs)
-    slice-aggregate-answer-ready-made (λ c κs. search needs) (λ c. search needs) (λ c. search needs))
+    (λ c. sym (length-take-le _ _ (omega arith))) (λ c κs. search needs) (λ c. search needs) (λ c. search needs))

@@ -6,11 +6,8 @@ use borrow.Author.Needs.{needs}
 use Rattle.sheet.proofs.filters.put_taps.Statement.{statement}
 use Rattle.sheet.proofs.filters.put_taps.Tie as tie
 
-slice-aggregate-put-floats : tie.Need-slice-aggregate-put-floats
-slice-aggregate-put-floats c = sym (length-take-le _ _ (omega arith))
-
 pub put-taps-spec : {M : Type 1} → statement M
 put-taps-spec =
     tie.close
-    (tie.spec (λ c. search needs) (λ c. search needs) slice-aggregate-put-floats
-    (λ c κs. search needs) (λ c. search needs) (λ c. search needs))
+    (tie.spec (λ c. search needs) (λ c. search needs) (λ c. sym (length-take-le _ _ (omega arith))) (λ c κs. search needs)
+    (λ c. search needs) (λ c. search needs))

@@ -6,14 +6,10 @@ use borrow.Author.Needs.{needs}
 use Rattle.sheet.proofs.parameters.block_lengths.Statement.{statement}
 use Rattle.sheet.proofs.parameters.block_lengths.Tie as tie
 
-slice-aggregate-read-floats : tie.Need-slice-aggregate-read-floats
-slice-aggregate-read-floats c = sym (length-take-le _ _ (omega arith))
-
 pub block-lengths-spec : {M : Type 1} → statement M
 block-lengths-spec =
     tie.close
     (tie.spec (λ c κs. search needs) (λ c κs. search needs) (λ c. search needs) (λ c κs. search needs) (λ c. search needs)
     (λ c κs. search needs) (λ c. search needs) (λ c κs. search needs) (λ c. search needs) (λ c. search needs) (λ c κs. search needs)
-    (λ c. search needs) (λ c. search needs) slice-aggregate-read-floats
-    (λ c κs. search needs) (λ c. search needs) (λ c κs. search needs) (λ c. search needs) (λ c. search needs) (λ c κs. search needs)
-    (λ c. search needs) (λ c. search needs))
+    (λ c. search needs) (λ c. search needs) (λ c. sym (length-take-le _ _ (omega arith))) (λ c κs. search needs) (λ c. search needs)
+    (λ c κs. search needs) (λ c. search needs) (λ c. search needs) (λ c κs. search needs) (λ c. search needs) (λ c. search needs))

@@ -6,12 +6,9 @@ use borrow.Author.Needs.{needs}
 use Rattle.sheet.proofs.parameters.order_and_floats.Statement.{statement}
 use Rattle.sheet.proofs.parameters.order_and_floats.Tie as tie
 
-slice-aggregate-read-floats : tie.Need-slice-aggregate-read-floats
-slice-aggregate-read-floats c = sym (length-take-le _ _ (omega arith))
-
 pub order-and-floats-spec : {M : Type 1} → statement M
 order-and-floats-spec =
     tie.close
     (tie.spec (λ c κs. search needs) (λ c. search needs) (λ c κs. search needs) (λ c. search needs) (λ c κs. search needs)
-    (λ c. search needs) (λ c κs. search needs) (λ c. search needs) (λ c. search needs) slice-aggregate-read-floats
+    (λ c. search needs) (λ c κs. search needs) (λ c. search needs) (λ c. search needs) (λ c. sym (length-take-le _ _ (omega arith)))
     (λ c κs. search needs) (λ c. search needs) (λ c. search needs) (λ c. search needs) (λ c. search needs))

@@ -13,12 +13,9 @@ Inv-loop rest from numbers₀ after₀ i₀ numbers after i = (i ≤ length numb
 abbrev μ-loop : tie.MeasureT-loop
 μ-loop rest from numbers₀ after₀ i₀ numbers after i = length numbers₀ - i
 
-loop-again : tie.Need-loop-again Inv-loop μ-loop
-loop-again c = (simp length-set (omega arith), simp length-set (omega arith))
-
 pub read-floats-spec : {M : Type 1} → statement M
 read-floats-spec =
     tie.close
     (tie.spec Inv-loop μ-loop (λ c. search needs) (λ c κs. search needs) (λ c κs. search needs) (λ c κs. search needs) (λ c. search needs)
     (λ c. search needs) (λ c. search needs) (λ c. search needs) (λ c. search needs) (λ c. search needs) (λ c. search needs)
-    (λ c. search needs) loop-again (λ c. search needs) (λ c. search needs))
+    (λ c. search needs) (λ c. (simp length-set (omega arith), simp length-set (omega arith))) (λ c. search needs) (λ c. search needs))

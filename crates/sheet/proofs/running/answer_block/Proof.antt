@@ -6,15 +6,9 @@ use borrow.Author.Needs.{needs}
 use Rattle.sheet.proofs.running.answer_block.Statement.{statement}
 use Rattle.sheet.proofs.running.answer_block.Tie as tie
 
-slice-aggregate-answer-samples : tie.Need-slice-aggregate-answer-samples
-slice-aggregate-answer-samples c = sym (length-take-le _ _ (omega arith))
-
-slice-aggregate-answer-samples-2 : tie.Need-slice-aggregate-answer-samples-2
-slice-aggregate-answer-samples-2 c = sym (length-take-le _ _ (omega arith))
-
 pub answer-block-spec : {M : Type 1} → statement M
 answer-block-spec =
     tie.close
     (tie.spec (λ c. search needs) (λ c κs. search needs) (λ c. search needs) (λ c κs. search needs) (λ c. search needs) (λ c. search needs)
-    (λ c κs. search needs) (λ c. search needs) slice-aggregate-answer-samples
-    (λ c. search needs) slice-aggregate-answer-samples-2 (λ c κs. search needs) (λ c. search needs) (λ c. search needs))
+    (λ c κs. search needs) (λ c. search needs) (λ c. sym (length-take-le _ _ (omega arith))) (λ c. search needs)
+    (λ c. sym (length-take-le _ _ (omega arith))) (λ c κs. search needs) (λ c. search needs) (λ c. search needs))
