@@ -21,13 +21,8 @@ pub fn cascade_block(
     output: &mut [f64],
     clouded: &mut [usize],
 ) -> u8
-    ensures { λ r. ⌜ record {
-      refusal = r;
-      numbers = now (numbers .exit);
-      counts = now (counts .exit);
-      answers = now (output .exit);
-      clouded = now (clouded .exit);
-    }
+    ensures { λ r.
+        ⌜ record { refusal = r; numbers = now (numbers .exit); counts = now (counts .exit); answers = now (output .exit); clouded = now (clouded .exit) }
         ≡ blockCall cascadeKind (now (numbers .entry)) (now (counts .entry)) (now (input .entry)) (now (output .entry)) (now (clouded .entry)) ⌝ }
 {
     if clouded.len() != 1 {
@@ -54,13 +49,8 @@ fn cascade_part(
     clouded: &mut [usize],
 ) -> u8
     requires { ⌜ length (now part) ≤ 256 ⌝ }
-    ensures { λ r. ⌜ record {
-      refusal = r;
-      numbers = now (numbers .exit);
-      counts = now (counts .exit);
-      answers = now (part .exit);
-      clouded = now (clouded .exit);
-    }
+    ensures { λ r.
+        ⌜ record { refusal = r; numbers = now (numbers .exit); counts = now (counts .exit); answers = now (part .exit); clouded = now (clouded .exit) }
         ≡ blockInPlaceCall cascadeKind (now (numbers .entry)) (now (counts .entry)) (now (part .entry)) (now (clouded .entry)) ⌝ }
 {
     let n = part.len();
@@ -77,13 +67,8 @@ fn cascade_parts(
     clouded: &mut [usize],
 )
     requires { ⌜ Ready cascadeKind (now numbers) (now counts) (now clouded) ⌝ }
-    ensures { λ _. ⌜ record {
-      refusal = Accepted;
-      numbers = now (numbers .exit);
-      counts = now (counts .exit);
-      answers = now (buffer .exit);
-      clouded = now (clouded .exit);
-    }
+    ensures { λ _.
+        ⌜ record { refusal = Accepted; numbers = now (numbers .exit); counts = now (counts .exit); answers = now (buffer .exit); clouded = now (clouded .exit) }
         ≡ blockInPlaceCall cascadeKind (now (numbers .entry)) (now (counts .entry)) (now (buffer .entry)) (now (clouded .entry)) ⌝ }
 {
     let mut total: usize = 0;
@@ -104,13 +89,8 @@ pub fn cascade_block_in_place(
     buffer: &mut [f64],
     clouded: &mut [usize],
 ) -> u8
-    ensures { λ r. ⌜ record {
-      refusal = r;
-      numbers = now (numbers .exit);
-      counts = now (counts .exit);
-      answers = now (buffer .exit);
-      clouded = now (clouded .exit);
-    }
+    ensures { λ r.
+        ⌜ record { refusal = r; numbers = now (numbers .exit); counts = now (counts .exit); answers = now (buffer .exit); clouded = now (clouded .exit) }
         ≡ blockInPlaceCall cascadeKind (now (numbers .entry)) (now (counts .entry)) (now (buffer .entry)) (now (clouded .entry)) ⌝ }
 {
     let none: usize = 0;

@@ -20,13 +20,8 @@ pub fn fir_block(
     output: &mut [f64],
     clouded: &mut [usize],
 ) -> u8
-    ensures { λ r. ⌜ record {
-      refusal = r;
-      numbers = now (samples .exit);
-      counts = now (counts .exit);
-      answers = now (output .exit);
-      clouded = now (clouded .exit);
-    }
+    ensures { λ r.
+        ⌜ record { refusal = r; numbers = now (samples .exit); counts = now (counts .exit); answers = now (output .exit); clouded = now (clouded .exit) }
         ≡ blockCall (firKind (now (taps .entry))) (now (samples .entry)) (now (counts .entry)) (now (input .entry)) (now (output .entry)) (now (clouded .entry))
         ⌝ }
 {
@@ -63,13 +58,8 @@ fn fir_part(
     clouded: &mut [usize],
 ) -> u8
     requires { ⌜ length (now part) ≤ 256 ⌝ }
-    ensures { λ r. ⌜ record {
-      refusal = r;
-      numbers = now (samples .exit);
-      counts = now (counts .exit);
-      answers = now (part .exit);
-      clouded = now (clouded .exit);
-    }
+    ensures { λ r.
+        ⌜ record { refusal = r; numbers = now (samples .exit); counts = now (counts .exit); answers = now (part .exit); clouded = now (clouded .exit) }
         ≡ blockInPlaceCall (firKind (now (taps .entry))) (now (samples .entry)) (now (counts .entry)) (now (part .entry)) (now (clouded .entry)) ⌝ }
 {
     let n = part.len();
@@ -87,13 +77,8 @@ fn fir_parts(
     clouded: &mut [usize],
 )
     requires { ⌜ Ready (firKind (now taps)) (now samples) (now counts) (now clouded) ⌝ }
-    ensures { λ _. ⌜ record {
-      refusal = Accepted;
-      numbers = now (samples .exit);
-      counts = now (counts .exit);
-      answers = now (buffer .exit);
-      clouded = now (clouded .exit);
-    }
+    ensures { λ _.
+        ⌜ record { refusal = Accepted; numbers = now (samples .exit); counts = now (counts .exit); answers = now (buffer .exit); clouded = now (clouded .exit) }
         ≡ blockInPlaceCall (firKind (now (taps .entry))) (now (samples .entry)) (now (counts .entry)) (now (buffer .entry)) (now (clouded .entry)) ⌝ }
 {
     let mut total: usize = 0;
@@ -115,13 +100,8 @@ pub fn fir_block_in_place(
     buffer: &mut [f64],
     clouded: &mut [usize],
 ) -> u8
-    ensures { λ r. ⌜ record {
-      refusal = r;
-      numbers = now (samples .exit);
-      counts = now (counts .exit);
-      answers = now (buffer .exit);
-      clouded = now (clouded .exit);
-    }
+    ensures { λ r.
+        ⌜ record { refusal = r; numbers = now (samples .exit); counts = now (counts .exit); answers = now (buffer .exit); clouded = now (clouded .exit) }
         ≡ blockInPlaceCall (firKind (now (taps .entry))) (now (samples .entry)) (now (counts .entry)) (now (buffer .entry)) (now (clouded .entry)) ⌝ }
 {
     let none: usize = 0;

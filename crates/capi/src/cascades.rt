@@ -19,13 +19,8 @@ pub extern "C" fn pulse_cascade_step(
     answer: &mut [f64],
     clouded: &mut [usize],
 ) -> u8
-    ensures { λ r. ⌜ record {
-      refusal = r;
-      numbers = now (numbers .exit);
-      counts = now (counts .exit);
-      answers = now (answer .exit);
-      clouded = now (clouded .exit);
-    }
+    ensures { λ r.
+        ⌜ record { refusal = r; numbers = now (numbers .exit); counts = now (counts .exit); answers = now (answer .exit); clouded = now (clouded .exit) }
         ≡ stepCall cascadeKind (now (numbers .entry)) (now (counts .entry)) x (now (answer .entry)) (now (clouded .entry)) ⌝ }
 {
     if !single(answer, clouded) {
@@ -54,13 +49,8 @@ pub extern "C" fn pulse_cascade_block(
     output: &mut [f64],
     clouded: &mut [usize],
 ) -> u8
-    ensures { λ r. ⌜ record {
-      refusal = r;
-      numbers = now (numbers .exit);
-      counts = now (counts .exit);
-      answers = now (output .exit);
-      clouded = now (clouded .exit);
-    }
+    ensures { λ r.
+        ⌜ record { refusal = r; numbers = now (numbers .exit); counts = now (counts .exit); answers = now (output .exit); clouded = now (clouded .exit) }
         ≡ blockCall cascadeKind (now (numbers .entry)) (now (counts .entry)) (now (input .entry)) (now (output .entry)) (now (clouded .entry)) ⌝ }
 {
     cascade_block(numbers, counts, input, output, clouded)
@@ -74,13 +64,8 @@ pub extern "C" fn pulse_cascade_block_in_place(
     buffer: &mut [f64],
     clouded: &mut [usize],
 ) -> u8
-    ensures { λ r. ⌜ record {
-      refusal = r;
-      numbers = now (numbers .exit);
-      counts = now (counts .exit);
-      answers = now (buffer .exit);
-      clouded = now (clouded .exit);
-    }
+    ensures { λ r.
+        ⌜ record { refusal = r; numbers = now (numbers .exit); counts = now (counts .exit); answers = now (buffer .exit); clouded = now (clouded .exit) }
         ≡ blockInPlaceCall cascadeKind (now (numbers .entry)) (now (counts .entry)) (now (buffer .entry)) (now (clouded .entry)) ⌝ }
 {
     cascade_block_in_place(numbers, counts, buffer, clouded)

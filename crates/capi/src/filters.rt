@@ -18,13 +18,8 @@ pub extern "C" fn pulse_fir_step(
     answer: &mut [f64],
     clouded: &mut [usize],
 ) -> u8
-    ensures { λ r. ⌜ record {
-      refusal = r;
-      numbers = now (samples .exit);
-      counts = now (counts .exit);
-      answers = now (answer .exit);
-      clouded = now (clouded .exit);
-    }
+    ensures { λ r.
+        ⌜ record { refusal = r; numbers = now (samples .exit); counts = now (counts .exit); answers = now (answer .exit); clouded = now (clouded .exit) }
         ≡ stepCall (firKind (now (taps .entry))) (now (samples .entry)) (now (counts .entry)) x (now (answer .entry)) (now (clouded .entry)) ⌝ }
 {
     if !single(answer, clouded) {
@@ -54,13 +49,8 @@ pub extern "C" fn pulse_fir_block(
     output: &mut [f64],
     clouded: &mut [usize],
 ) -> u8
-    ensures { λ r. ⌜ record {
-      refusal = r;
-      numbers = now (samples .exit);
-      counts = now (counts .exit);
-      answers = now (output .exit);
-      clouded = now (clouded .exit);
-    }
+    ensures { λ r.
+        ⌜ record { refusal = r; numbers = now (samples .exit); counts = now (counts .exit); answers = now (output .exit); clouded = now (clouded .exit) }
         ≡ blockCall (firKind (now (taps .entry))) (now (samples .entry)) (now (counts .entry)) (now (input .entry)) (now (output .entry)) (now (clouded .entry))
         ⌝ }
 {
@@ -76,13 +66,8 @@ pub extern "C" fn pulse_fir_block_in_place(
     buffer: &mut [f64],
     clouded: &mut [usize],
 ) -> u8
-    ensures { λ r. ⌜ record {
-      refusal = r;
-      numbers = now (samples .exit);
-      counts = now (counts .exit);
-      answers = now (buffer .exit);
-      clouded = now (clouded .exit);
-    }
+    ensures { λ r.
+        ⌜ record { refusal = r; numbers = now (samples .exit); counts = now (counts .exit); answers = now (buffer .exit); clouded = now (clouded .exit) }
         ≡ blockInPlaceCall (firKind (now (taps .entry))) (now (samples .entry)) (now (counts .entry)) (now (buffer .entry)) (now (clouded .entry)) ⌝ }
 {
     fir_block_in_place(taps, samples, counts, buffer, clouded)

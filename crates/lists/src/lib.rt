@@ -20,12 +20,12 @@ pub fn copy(from: &[f64], to: &mut [f64])
     }
 }
 
-// Whether a run of m places from place `at` on lies within a length.
-pub fn within(at: usize, m: usize, length: usize) -> bool
-    ensures { λ r. ⌜ r ≡ leb (at + m) length ⌝ }
+// Whether a run of m places from place `at` on lies within so many places.
+pub fn within(at: usize, m: usize, places: usize) -> bool
+    ensures { λ r. ⌜ r ≡ leb (at + m) places ⌝ }
 {
-    if at > length {
+    if at > places {
         return false;
     }
-    m <= length - at
+    m <= places - at
 }
