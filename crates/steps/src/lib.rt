@@ -68,7 +68,8 @@ pub extern "C" fn steps_cascade(
     input: &[f64],
     output: &mut [f64],
 ) -> u8
-    ensures { λ r. ⌜ record { refusal = r; output = now (output .exit) } ≡ cascadeSteps order cutoff «sample_rate» (now (input .entry)) (now (output .entry)) ⌝ }
+    ensures { λ r. ⌜ record { refusal = r; output = now (output .exit) }
+        ≡ cascadeSteps order cutoff «sample_rate» (now (input .entry)) (now (output .entry)) ⌝ }
 {
     let d = design_cascade::design_butterworth_lp(order, cutoff, sample_rate);
     let refusal = d.refusal;
