@@ -1,6 +1,5 @@
--- Lists of calls of the C functions on one filter, each on what the call before it left in the filter's slices. A premise of each call is its contract, word
--- for
--- word, at cascadeKind for a cascade and at firKind for a tap record.
+-- Lists of calls of the C functions on one filter, each on what the call before it left in the filter's slices. A premise of each call is its contract,
+-- word for word, at cascadeKind for a cascade and at firKind for a tap record.
 use Prim.Native.Nat.{ℕ}
 use mathlib.Core.Path.{_≡_}
 use mathlib.Core.Bool.{cond}

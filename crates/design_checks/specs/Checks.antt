@@ -1,6 +1,5 @@
--- 01's first table: when the refusal numbers 2 to 4 are given (the test of 1 stands in `runs`), and its order of checks. Comparisons with a NaN are false, so
--- its tests stand by
--- themselves.
+-- 01's first table: when the refusal numbers 2 to 4 are given (the test of 1 stands in `runs`), and its order of checks. Comparisons with a NaN are
+-- false, so its tests stand by themselves.
 use Prim.Native.Nat.{ℕ}
 use mathlib.Core.Bool.{Bool, cond, _||_}
 use lib.Ieee.{Float, isNan, le}

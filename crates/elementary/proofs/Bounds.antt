@@ -92,9 +92,9 @@ within-mono K L (inf s) h p = p
 within-mono K L (fin s m e) h p = le-trans p (mul-le-mul-right (down e) h)
 
 -- ---- sin and cos: the angle, and the angle in quarter turns
-pub turnable-is : (x a : Float) (b : Bool) → a ≡ absOf x → le a (bits 0x4060000000000000) ≡ b → turnable x ≡ b
+pub turnable-is : {a : Float} {b : Bool} (x : Float) → a ≡ absOf x → le a (bits 0x4060000000000000) ≡ b → turnable x ≡ b
 unfolding turnable
-turnable-is x a b e t = ap (λ (z : Float). le z (bits 0x4060000000000000)) (sym e) ∙ t
+turnable-is x e t = ap (λ (z : Float). le z (bits 0x4060000000000000)) (sym e) ∙ t
 
 pub turnable-within : (x : Float) → turnable x ≡ true → Within 128 x
 unfolding turnable ofBits

@@ -1,8 +1,10 @@
 // The words that name requests and windows.
 use super::cascades::CascadeKind;
 use super::functions::Function;
+use super::line::bytes_of;
 use super::records::RecordKind;
 use design_fir::WindowType;
+use text_answers::next_token;
 use text_answers::same_bytes;
 
 // The designs are Cascade and Fir; Taps is ready-made taps.
@@ -23,96 +25,71 @@ pub(crate) enum WindowName {
     Unknown,
 }
 
+// The place of the word in the list of words; where it is none of them, how many there are.
+fn place(words: &[u8], word: &[u8]) -> usize {
+    let mut n: usize = 0;
+    let mut at: usize = 0;
+    while at < words.len() {
+        let t = next_token(words, at);
+        let end = t.end;
+        if end <= at {
+            return n;
+        }
+        if same_bytes(bytes_of(words, t), word) {
+            return n;
+        }
+        n += 1;
+        at = end;
+    }
+    n
+}
+
 pub(crate) fn request_of(word: &[u8]) -> Request {
-    if same_bytes(word, b"cstep") {
-        return Request::Step(RecordKind::Cascade);
+    match place(b"cstep fstep cblock fblock creset freset fir taps", word) {
+        0 => Request::Step(RecordKind::Cascade),
+        1 => Request::Step(RecordKind::Filter),
+        2 => Request::Block(RecordKind::Cascade),
+        3 => Request::Block(RecordKind::Filter),
+        4 => Request::Reset(RecordKind::Cascade),
+        5 => Request::Reset(RecordKind::Filter),
+        6 => Request::Fir,
+        7 => Request::Taps,
+        _ => design_of(word),
     }
-    if same_bytes(word, b"fstep") {
-        return Request::Step(RecordKind::Filter);
-    }
-    if same_bytes(word, b"cblock") {
-        return Request::Block(RecordKind::Cascade);
-    }
-    if same_bytes(word, b"fblock") {
-        return Request::Block(RecordKind::Filter);
-    }
-    if same_bytes(word, b"creset") {
-        return Request::Reset(RecordKind::Cascade);
-    }
-    if same_bytes(word, b"freset") {
-        return Request::Reset(RecordKind::Filter);
-    }
-    if same_bytes(word, b"fir") {
-        return Request::Fir;
-    }
-    if same_bytes(word, b"taps") {
-        return Request::Taps;
-    }
-    design_of(word)
 }
 
 fn design_of(word: &[u8]) -> Request {
-    if same_bytes(word, b"lowpass") {
-        return Request::Cascade(CascadeKind::LowPass);
+    match place(b"lowpass highpass bandpass chebyshev1 chebyshev2", word) {
+        0 => Request::Cascade(CascadeKind::LowPass),
+        1 => Request::Cascade(CascadeKind::HighPass),
+        2 => Request::Cascade(CascadeKind::BandPass),
+        3 => Request::Cascade(CascadeKind::Chebyshev1),
+        4 => Request::Cascade(CascadeKind::Chebyshev2),
+        _ => function_of(word),
     }
-    if same_bytes(word, b"highpass") {
-        return Request::Cascade(CascadeKind::HighPass);
-    }
-    if same_bytes(word, b"bandpass") {
-        return Request::Cascade(CascadeKind::BandPass);
-    }
-    if same_bytes(word, b"chebyshev1") {
-        return Request::Cascade(CascadeKind::Chebyshev1);
-    }
-    if same_bytes(word, b"chebyshev2") {
-        return Request::Cascade(CascadeKind::Chebyshev2);
-    }
-    function_of(word)
 }
 
 fn function_of(word: &[u8]) -> Request {
-    if same_bytes(word, b"sqrt") {
-        return Request::Function(Function::Sqrt);
+    match place(b"sqrt sin cos tan exp ln sinh cosh pow10", word) {
+        0 => Request::Function(Function::Sqrt),
+        1 => Request::Function(Function::Sin),
+        2 => Request::Function(Function::Cos),
+        3 => Request::Function(Function::Tan),
+        4 => Request::Function(Function::Exp),
+        5 => Request::Function(Function::Ln),
+        6 => Request::Function(Function::Sinh),
+        7 => Request::Function(Function::Cosh),
+        8 => Request::Function(Function::Pow10),
+        _ => Request::Unknown,
     }
-    if same_bytes(word, b"sin") {
-        return Request::Function(Function::Sin);
-    }
-    if same_bytes(word, b"cos") {
-        return Request::Function(Function::Cos);
-    }
-    if same_bytes(word, b"tan") {
-        return Request::Function(Function::Tan);
-    }
-    if same_bytes(word, b"exp") {
-        return Request::Function(Function::Exp);
-    }
-    if same_bytes(word, b"ln") {
-        return Request::Function(Function::Ln);
-    }
-    if same_bytes(word, b"sinh") {
-        return Request::Function(Function::Sinh);
-    }
-    if same_bytes(word, b"cosh") {
-        return Request::Function(Function::Cosh);
-    }
-    if same_bytes(word, b"pow10") {
-        return Request::Function(Function::Pow10);
-    }
-    Request::Unknown
 }
 
 pub(crate) fn window_of(word: &[u8]) -> WindowName {
-    if same_bytes(word, b"rectangular") {
-        return WindowName::Window(WindowType::Rectangular);
+    match place(b"rectangular hamming hanning blackman", word) {
+        0 => WindowName::Window(WindowType::Rectangular),
+        1 => WindowName::Window(WindowType::Hamming),
+        2 => WindowName::Window(WindowType::Hanning),
+        3 => WindowName::Window(WindowType::Blackman),
+        _ => WindowName::Unknown,
     }
-    if same_bytes(word, b"hamming") {
-        return WindowName::Window(WindowType::Hamming);
-    }
-    if same_bytes(word, b"hanning") {
-        return WindowName::Window(WindowType::Hanning);
-    }
-    if same_bytes(word, b"blackman") {
-        return WindowName::Window(WindowType::Blackman);
-    }
-    WindowName::Unknown
 }

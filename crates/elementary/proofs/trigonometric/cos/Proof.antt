@@ -1,5 +1,4 @@
 -- `elementary::trigonometric::cos` meets its contract.
-use mathlib.Core.Bool.{true, false}
 use lib.Ieee as Ieee
 use Rattle.elementary.specs.Trigonometric.{cosOf}
 use Rattle.elementary.proofs.Bounds.{turnable-is, turnable-within}
@@ -7,22 +6,12 @@ use borrow.Author.Needs.{needs}
 use Rattle.elementary.proofs.trigonometric.cos.Statement.{statement}
 use Rattle.elementary.proofs.trigonometric.cos.Tie as tie
 
-reduced-requires : tie.Need-reduced-requires
-reduced-requires c κs = let x = c .before .before .args .x in
-    turnable-within x (turnable-is x (c .before .abs .result) true (c .before .abs .ensures) (c .if1 .taken))
-
 returns : tie.Need-returns
 unfolding cosOf
-returns c = let d = c .before .before .before in
-    rw (
-      c .cos-in .ensures,
-      c .before .reduced .ensures,
-      turnable-is (d .before .args .x) (d .abs .result) true (d .abs .ensures) (c .before .before .if1 .taken),
-    )
-
-returns-2 : tie.Need-returns-2
-unfolding cosOf Ieee.div Ieee.ofBits
-returns-2 c = rw (turnable-is (c .before .before .args .x) (c .before .abs .result) false (c .before .abs .ensures) (c .if1 .left))
+returns c = let e = c .before .before in rw (turnable-is _ (e .before .abs .ensures) (e .if1 .taken)) (cc)
 
 pub cos-spec : {M : Type 1} → statement M
-cos-spec = tie.close (tie.spec (λ c κs. search needs) reduced-requires (λ c κs. search needs) returns returns-2)
+cos-spec =
+    tie.close
+    (tie.spec (λ c κs. search needs) (λ c κs. turnable-within _ (turnable-is _ (c .before .abs .ensures) (c .if1 .taken)))
+    (λ c κs. search needs) returns (λ c. unfold cosOf Ieee.div Ieee.ofBits in rw (turnable-is _ (c .before .abs .ensures) (c .if1 .left))))
