@@ -22,7 +22,8 @@ use Rattle.lists.proofs.Folding.{front-turn, front-done}
 use Rattle.lists.proofs.Places.{drop-replicate}
 use Rattle.lists.proofs.Tests.{both}
 use Rattle.fir_theory.specs.Lent.{lentTaps, fits}
-use Rattle.fir_theory.specs.Fir.{TapsRecord, ReadyMade, pushed, next, heldOf, clouding, sum, value, mark, checkTaps, zeros, blankTaps, clearedTaps, fir, holding, Made, fromCoeffs}
+use Rattle.fir_theory.specs.Fir.{TapsRecord, ReadyMade, pushed, next, heldOf, clouding, sum, value, mark, checkTaps, zeros, blankTaps, clearedTaps, fir}
+use Rattle.fir_theory.specs.Fir.{holding, Made, fromCoeffs}
 
 -- ---- the loop that pushes among the first n: i places are done, and carried is what goes next
 abbrev pub Pushing : ℕ → List Float → Float → List Float → Float → ℕ → Type 0
@@ -192,7 +193,8 @@ module _ (f : Format) (capacity : ℕ) (r : TapsRecord) (fit : fits capacity r �
       → _≡_ {A = Step TapsRecord} (record { answer = marked b y; state = lentTaps (r .taps) s (r .length) h (r .window) })
       (lentStep (fir capacity f) (fits capacity) r x)
   update-is x b e k = let p = passed f r x (e .0) (e .1) (e .2) (e .3) in
-      step-answered (fir capacity f) r x good (answer-is (fir capacity f) r x b (p .0) (p .1) k) (p .2) ∙ sym (lent-step (fir capacity f) (fits capacity) r x fit)
+      step-answered (fir capacity f) r x good (answer-is (fir capacity f) r x b (p .0) (p .1) k) (p .2)
+      ∙ sym (lent-step (fir capacity f) (fits capacity) r x fit)
 
   pub reset-is : {s : List Float} → s ≡ replicate (length (r .samples)) plusZero
       → _≡_ {A = Reset TapsRecord} (record { refusal = Accepted; state = lentTaps (r .taps) s (r .length) 0 (r .window) })
@@ -213,7 +215,8 @@ module _ (capacity : ℕ) (ts : List Float) where
   unfolding fromCoeffs orderRefused
   made-many h k e = rw (ne-eqb (length ts) 0 (λ z. omega arith), lt-ltb capacity (length ts) k, e)
 
-  pub made : {l s : List Float} (i : ℕ) → 1 ≤ length ts → length ts ≤ capacity → i ≡ length ts → s ≡ zeros capacity → Overwriting (zeros capacity) 0 ts (length ts) l i
+  pub made : {l s : List Float} (i : ℕ) → 1 ≤ length ts → length ts ≤ capacity → i ≡ length ts → s ≡ zeros capacity
+      → Overwriting (zeros capacity) 0 ts (length ts) l i
       → _≡_ {A = Made} (record { refusal = Accepted; filter = record { taps = l; samples = s; length = length ts; held = 0; window = ReadyMade } })
       (fromCoeffs capacity ts)
   unfolding fromCoeffs orderRefused holding

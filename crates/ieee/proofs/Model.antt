@@ -1,8 +1,9 @@
 -- `sqrtOf` is the square root, for every format and every x (`sqrtOf-correct`).
 use mathlib.Core.Path.{_≡_, refl, sym, subst}
 use mathlib.Core.Bool.{Bool, true, false, not, cond}
-use Prim.Native.Nat.{ℕ, zero, suc, _+_, _-_, _*_, _/_, _^_, _≤_, _<_}
-use native.Mathlib.Nat.{le-trans, le-of-eq, le-of-lt, lt-of-lt-of-le, lt-of-le-of-lt, lt-of-not-le, not-le-of-lt, mul-pos, mul-le-mul, mul-le-mul-right, le-of-mul-le-mul-right, zero-lt-suc, pow-suc, pow-succ', pow-le-pow-left, div-lt-iff-lt-mul}
+use Prim.Native.Nat.{ℕ, zero, suc, _+_, _*_, _/_, _^_, _≤_, _<_}
+use native.Mathlib.Nat.{le-trans, le-of-eq, le-of-lt, lt-of-lt-of-le, lt-of-le-of-lt, lt-of-not-le, not-le-of-lt, mul-pos, mul-le-mul, mul-le-mul-right}
+use native.Mathlib.Nat.{le-of-mul-le-mul-right, zero-lt-suc, pow-suc, pow-succ', pow-le-pow-left, div-lt-iff-lt-mul}
 use native.Mathlib.Omega.{arith}
 use lib.Dec.{T, ltb, eqb, ltb→lt, nltb→le, eqb→eq, lit≤}
 use lib.Pow.{pow-pos}
@@ -21,12 +22,6 @@ use Rattle.ieee.proofs.Unique.{sq-le-back}
 abbrev IsRoot : ℕ → ℕ → Type 0
 IsRoot s n = (s * s ≤ n) × (n < (s + 1) * (s + 1))
 
-fourth : (n s : ℕ) → s * s ≤ n / 4 → 2 * s * (2 * s) ≤ n
-fourth n s h = omega arith
-
-fourth-up : (n s : ℕ) → n / 4 < (s + 1) * (s + 1) → n < (2 * s + 1 + 1) * (2 * s + 1 + 1)
-fourth-up n s h = omega arith
-
 isqrt-is : (k n : ℕ) → n < 4 ^ k → IsRoot (isqrt k n) n
 unfolding isqrt
 isqrt-is zero n h = omega arith
@@ -34,8 +29,8 @@ isqrt-is (suc k) n h = go (isqrt k (n / 4)) (isqrt-is k (n / 4) (div-lt-iff-lt-m
   where
     pick : (s : ℕ) → IsRoot s (n / 4) → (t : Bool) → (T t → n < (2 * s + 1) * (2 * s + 1)) → (T (not t) → (2 * s + 1) * (2 * s + 1) ≤ n)
         → IsRoot (cond t (2 * s) (2 * s + 1)) n
-    pick s r true a b = (fourth n s (r .0), a tt)
-    pick s r false a b = (b tt, fourth-up n s (r .1))
+    pick s r true a b = (omega (arith, r .0), a tt)
+    pick s r false a b = (b tt, omega (arith, r .1))
 
     go : (s : ℕ) → IsRoot s (n / 4) → IsRoot (cond (ltb n ((2 * s + 1) * (2 * s + 1))) (2 * s) (2 * s + 1)) n
     go s r = pick s r (ltb n ((2 * s + 1) * (2 * s + 1))) (ltb→lt n ((2 * s + 1) * (2 * s + 1))) (nltb→le n ((2 * s + 1) * (2 * s + 1)))
@@ -58,10 +53,7 @@ unfolding withSticky
 sides s n r = go (eqb (s * s) n) (eqb→eq (s * s) n) (λ (e : s * s ≡ n). eq→eqb e)
   where
     under : (y : ℕ) → y * y ≤ n → y ≤ s
-    under y h = below y s (lt-of-sq y (s + 1) (lt-of-le-of-lt h (r .1)))
-      where
-        below : (y s : ℕ) → y < s + 1 → y ≤ s
-        below y s h = omega arith
+    under y h = omega (arith, lt-of-sq y (s + 1) (lt-of-le-of-lt h (r .1)))
 
     twice : (x y : ℕ) → x ≤ y → 2 * x ≤ 2 * y
     twice x y h = omega arith
@@ -75,12 +67,6 @@ sides s n r = go (eqb (s * s) n) (eqb→eq (s * s) n) (λ (e : s * s ≡ n). eq�
     one-half : (x y : ℕ) → 2 * x + 1 ≤ 2 * y → x + 1 ≤ y
     one-half x y h = omega arith
 
-    over-one : (x y : ℕ) → x < y → 2 * x + 1 ≤ 2 * y
-    over-one x y h = omega arith
-
-    more : (x y : ℕ) → x ≤ y → x ≤ y + 1
-    more x y h = omega arith
-
     go : (t : Bool) → (T t → s * s ≡ n) → (s * s ≡ n → T t) → Sides (cond t (2 * s) (2 * s + 1)) n
     go true a b = record {
       most = λ y h. twice s y (sq-le-back s y (le-trans (r .0) h));
@@ -89,9 +75,9 @@ sides s n r = go (eqb (s * s) n) (eqb→eq (s * s) n) (λ (e : s * s ≡ n). eq�
       least-back = λ y h. le-trans (mul-le-mul (half y s h) (half y s h)) (r .0);
     }
     go false a b = record {
-      most = λ y h. over-one s y (lt-of-sq s y (lt-of-lt-of-le (lt-of-le-ne (r .0) b) h));
+      most = λ y h. omega (arith, lt-of-sq s y (lt-of-lt-of-le (lt-of-le-ne (r .0) b) h));
       most-back = λ y h. le-trans (le-of-lt (r .1)) (mul-le-mul (one-half s y h) (one-half s y h));
-      least = λ y h. more (2 * y) (2 * s) (twice y s (under y h));
+      least = λ y h. omega (arith, twice y s (under y h));
       least-back = λ y h. le-trans (mul-le-mul (half-one y s h) (half-one y s h)) (r .0);
     }
 

@@ -5,7 +5,8 @@ use mathlib.Core.Path.{_≡_, refl, sym, ap, _∙_, subst}
 use mathlib.Core.Logic.{inl, inr}
 use mathlib.Core.Bool.{Bool}
 use Prim.Native.Nat.{ℕ, zero, suc, _+_, _-_, _*_, _^_, _≤_, _<_}
-use native.Mathlib.Nat.{le-refl, le-step, le-trans, le-of-eq, le-of-lt, add-comm, add-mul, lt-of-lt-of-le, lt-irrefl, not-le-of-lt, eq-or-lt-of-le, mul-assoc, mul-comm, mul-pos, mul-lt-mul-of-pos-right, eq-of-mul-eq-mul-right, pow-succ'}
+use native.Mathlib.Nat.{le-refl, le-step, le-trans, le-of-eq, le-of-lt, add-comm, add-mul, lt-of-lt-of-le, lt-irrefl, not-le-of-lt, eq-or-lt-of-le, mul-assoc}
+use native.Mathlib.Nat.{mul-comm, mul-pos, mul-lt-mul-of-pos-right, eq-of-mul-eq-mul-right, pow-succ'}
 use native.Mathlib.Omega.{arith}
 use lib.Dec.{T}
 use lib.Pow.{pow-add, pow-pos, pow-mono}
@@ -26,10 +27,7 @@ module _ (p : ℕ) (P : 2 ≤ p) where
   twice = ap (λ (x : ℕ). 2 ^ x) (sym before) ∙ pow-succ' 2 (p - 1)
 
   big : 2 ≤ 2 ^ (p - 1)
-  big = pow-mono {i = 1} (room p P)
-    where
-      room : (p : ℕ) → 2 ≤ p → 1 ≤ p - 1
-      room p h = omega arith
+  big = pow-mono {i = 1} (omega arith)
 
   -- with H = 2 ^ (p - 1), the largest is 2 * H - 1, and the even one before it 2 * (H - 1)
   last : suc (2 * (2 ^ (p - 1) - 1)) ≡ 2 ^ p - 1
@@ -64,22 +62,16 @@ module _ (p : ℕ) (P : 2 ≤ p) where
 
 one-off : (x U : ℕ) → 0 < x → (x - 1) * U + U ≡ x * U
 one-off zero U h = absurd (lt-irrefl 0 h)
-one-off (suc x) U h = ap (λ (z : ℕ). z * U + U) (less x) ∙ row x U
+one-off (suc x) U h = ap (λ (z : ℕ). z * U + U) (less x) ∙ (omega arith)
   where
     less : (x : ℕ) → suc x - 1 ≡ x
     less x = omega arith
 
-    row : (x U : ℕ) → x * U + U ≡ suc x * U
-    row x U = omega arith
-
 -- the middle between the largest value and the infinity, twice and in smallest values, is the edge
 double-less : (x y O : ℕ) → y ≡ 2 * x → 0 < x → (U : ℕ) → x * U ≡ O → (y - 1) * U ≡ (x - 1) * U + O
 double-less zero y O e h U o = absurd (lt-irrefl 0 h)
-double-less (suc x) y O e h U o = ap (λ (z : ℕ). (z - 1) * U) e ∙ ap (λ (z : ℕ). z * U) (odd-one x) ∙ rows x U ∙ ap (λ (z : ℕ). (suc x - 1) * U + z) o
+double-less (suc x) y O e h U o = ap (λ (z : ℕ). (z - 1) * U) e ∙ ap (λ (z : ℕ). z * U) (omega arith) ∙ rows x U ∙ ap (λ (z : ℕ). (suc x - 1) * U + z) o
   where
-    odd-one : (x : ℕ) → 2 * suc x - 1 ≡ x + suc x
-    odd-one x = omega arith
-
     less : (x : ℕ) → x ≡ suc x - 1
     less x = omega arith
 
@@ -98,18 +90,12 @@ module _ (f : Format) where
       let E = 2 ^ suc (prec f) - 1 in
       let o : 2 ^ spare f * 2 ^ prec f ≡ 2 ^ emax f * (2 * 2 ^ low f) =
       mul-comm (2 ^ spare f) (2 ^ prec f) ∙ spare-is f ∙ pow-add 2 (low f) (suc (emax f)) ∙ ap (λ (z : ℕ). 2 ^ low f * z) (pow-succ' 2 (emax f))
-      ∙ turn (2 ^ low f) (2 ^ emax f) in
-      swap (2 ^ emax f) E (2 * 2 ^ low f)
+      ∙ (omega arith) in
+      omega arith
       ∙ ap (λ (z : ℕ). E * z) (sym o)
       ∙ sym (mul-assoc E (2 ^ spare f) (2 ^ prec f))
       ∙ ap (λ (z : ℕ). z * 2 ^ prec f) (double-less (2 ^ prec f) (2 ^ suc (prec f)) (overflow f) (pow-succ' 2 (prec f)) (pow-pos (prec f)) (2 ^ spare f)
       (spare-is f))
-    where
-      turn : (l e : ℕ) → l * (2 * e) ≡ e * (2 * l)
-      turn l e = omega arith
-
-      swap : (e E l : ℕ) → e * E * l ≡ E * (e * l)
-      swap e E l = omega arith
 
   top-lt : top < overflow f
   top-lt = subst (λ (z : ℕ). top < z) (spare-is f) (mul-lt-mul-of-pos-right (under (prec f) (two f)) (pow-pos (spare f)))
@@ -157,7 +143,7 @@ module _ (f : Format) where
         lt in
         let R-ge : top ≤ R = le-of-not-lt R top (λ (g : R < top). not-le-of-lt
         (back-order (midNum f r (inf s)) (midDen r (inf s)) (edgeNum f) (edgeDen f) (2 * 2 ^ low f) (R + overflow f) (top + overflow f) (mid-pos r (inf s))
-        (pow-pos (prec f)) m edge-value (plus R top (overflow f) g)) c) in
+        (pow-pos (prec f)) m edge-value (omega arith)) c) in
         let R-is : top ≡ R = elim (eq-or-lt-of-le R-ge) [
           | inl e ↦ e
           | inr g ↦ absurd (not-le-of-lt R-lt (le-trans (le-of-eq (sym (one-off (2 ^ prec f) (2 ^ spare f) (pow-pos (prec f)) ∙ spare-is f)))
@@ -173,9 +159,6 @@ module _ (f : Format) where
         (ap (λ (z : ℕ). z * 2 ^ spare f) (last (prec f) (two f)) ∙ R-is
         ∙ eq-of-mul-eq-mul-right (den r) (den-pos r) R (e .c * 2 ^ e .k) (sym (o .value) ∙ e .value))
       where
-        plus : (a b c : ℕ) → a < b → a + c < b + c
-        plus a b c h = omega arith
-
         le-of-not-lt : (a b : ℕ) → (a < b → ⊥) → b ≤ a
         le-of-not-lt a b h = elim (or-lt a b) [ inl l ↦ l | inr g ↦ absurd (h g) ]
 

@@ -9,7 +9,9 @@ use lib.Ieee.{Float}
 use Rattle.runs.specs.Refusals.{Accepted, ShortOutput}
 use Rattle.runs.specs.Runs as Runs
 use Rattle.runs.specs.Runs.{Answer, marked, refusalOf, cloudedIn, placed, written, Filter, Fresh, refusedBlock, answer, answers, after}
-use Rattle.runs.specs.Forgetting.{Call, step, block, reset, Outcome, stepped, blocked, wasReset, outcome, left, run, Plain, isShort, keptAfter, plainAnswer, plainAnswers, plainOutcome, plainRun, answered, isReset, dues, all, shown, places, ofStep, ofBlock, seenOf, seen, refusedBy, Forgets}
+use Rattle.runs.specs.Forgetting.{Call, step, block, reset, Outcome, stepped, blocked, wasReset, outcome, left, run, Plain, isShort, keptAfter}
+use Rattle.runs.specs.Forgetting.{plainAnswer, plainAnswers, plainOutcome, plainRun, answered, isReset, dues, all, shown, places, ofStep, ofBlock, seenOf}
+use Rattle.runs.specs.Forgetting.{seen, refusedBy, Forgets}
 use Rattle.lists.proofs.Tests.{both}
 use Rattle.runs.proofs.Laws.{marked-accepted, step-is}
 

@@ -12,7 +12,8 @@ use lib.Seq.{drop-cons, take-suc-set, drop-set-lt, drop-drop, take-at, drop-at}
 use borrow.Author.Tests.{ltb-false, lt-ltb, le-ltb}
 use Rattle.runs.specs.Refusals.{orderRefused, ShortOutput}
 use lib.Ieee.{Float, nan}
-use Rattle.runs.specs.Runs.{Answer, Step, refused, marked, isClouded, numberOf, refusalOf, cloudedIn, placed, written, Filter, Reset, Block, refusedBlock, Fresh, answer, step, reset, answers, after, block}
+use Rattle.runs.specs.Runs.{Answer, Step, refused, marked, isClouded, numberOf, refusalOf, cloudedIn, placed, written, Filter, Reset, Block, refusedBlock}
+use Rattle.runs.specs.Runs.{Fresh, answer, step, reset, answers, after, block}
 
 -- ---- an answer with a mark
 pub number-marked : (b : Bool) (y : Float) → numberOf (marked b y) ≡ y

@@ -8,7 +8,8 @@ use lib.Dec.{ltb}
 use lib.ListN.{length}
 use lib.Ieee.{Float}
 use Rattle.runs.specs.Refusals.{Accepted, ShortOutput, BadCall}
-use Rattle.runs.specs.Runs.{Filter, Answer, Step, Reset, Block, refused, marked, refusalOf, refusedBlock, answer, step, reset, answers, after, cloudedIn, written, block}
+use Rattle.runs.specs.Runs.{Filter, Answer, Step, Reset, Block, refused, marked, refusalOf, refusedBlock, answer, step, reset, answers, after, cloudedIn}
+use Rattle.runs.specs.Runs.{written, block}
 use Rattle.runs.specs.Lent.{lentRefusal, lentStep, lentReset, lentBlock}
 use Rattle.runs.proofs.Laws.{marked-accepted}
 

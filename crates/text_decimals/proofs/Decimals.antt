@@ -3,7 +3,8 @@ use Prim.Native.Nat.{ℕ, zero, suc, _*_, _^_, _<_, _≤_}
 use mathlib.Core.Path.{_≡_, refl, sym, ap, _∙_, subst}
 use mathlib.Core.Bool.{Bool, true, false, _&&_, cond, false≢true}
 use mathlib.Core.List.{List, _++_}
-use native.Mathlib.Nat.{le-trans, le-of-eq, mul-assoc, mul-comm, mul-right-comm, mul-mul-mul-comm, mul-le-mul-right, le-of-mul-le-mul-right, mul-pos, one-le-pow, pow-succ'}
+use native.Mathlib.Nat.{le-trans, le-of-eq, mul-assoc, mul-comm, mul-right-comm, mul-mul-mul-comm, mul-le-mul-right, le-of-mul-le-mul-right, mul-pos}
+use native.Mathlib.Nat.{one-le-pow, pow-succ'}
 use native.Mathlib.Omega.{arith}
 use lib.Dec.{leb, ltb}
 use lib.IntN.{ℤ, pos, negsuc}
