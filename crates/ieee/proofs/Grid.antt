@@ -44,10 +44,7 @@ place m l (negsuc a) h = (
 
 -- a / d is W / L, and below T: so W is below O, which is T * L
 pub under : (a d L W T O : ℕ) → 0 < L → a * L ≡ W * d → O ≡ L * T → a < T * d → W < O
-under a d L W T O l x o h = lt-of-mul-lt-mul-right d (subst (λ (z : ℕ). W * d < z * d) (sym o) (go (mul-lt-mul-of-pos-right h l)))
-  where
-    go : a * L < T * d * L → W * d < L * T * d
-    go g = omega arith
+under a d L W T O l x o h = lt-of-mul-lt-mul-right d (subst (λ (z : ℕ). W * d < z * d) (sym o) (omega (arith, mul-lt-mul-of-pos-right h l)))
 
 -- what `fits` says of m * 2 ^ e: m has prec digits, 2 ^ e is no finer than the smallest value, and the whole is below 2 ^ (emax + 1)
 pub fits-digits : (f : Format) (s : Bool) (m : ℕ) (e : ℤ) → T (fits f (fin s m e)) → m < 2 ^ prec f

@@ -55,10 +55,7 @@ module _ (p : ℕ) (P : 2 ≤ p) where
       go x h e b = omega arith
 
   under : 2 ^ p - 1 < 2 ^ p
-  under = go (2 ^ p) (pow-pos p)
-    where
-      go : (x : ℕ) → 0 < x → x - 1 < x
-      go x h = omega arith
+  under = omega (arith, pow-pos p)
 
 one-off : (x U : ℕ) → 0 < x → (x - 1) * U + U ≡ x * U
 one-off zero U h = absurd (lt-irrefl 0 h)
@@ -72,11 +69,8 @@ double-less : (x y O : ℕ) → y ≡ 2 * x → 0 < x → (U : ℕ) → x * U �
 double-less zero y O e h U o = absurd (lt-irrefl 0 h)
 double-less (suc x) y O e h U o = ap (λ (z : ℕ). (z - 1) * U) e ∙ ap (λ (z : ℕ). z * U) (omega arith) ∙ rows x U ∙ ap (λ (z : ℕ). (suc x - 1) * U + z) o
   where
-    less : (x : ℕ) → x ≡ suc x - 1
-    less x = omega arith
-
     rows : (x U : ℕ) → (x + suc x) * U ≡ (suc x - 1) * U + suc x * U
-    rows x U = add-mul x (suc x) U ∙ ap (λ (z : ℕ). z * U + suc x * U) (less x)
+    rows x U = add-mul x (suc x) U ∙ ap (λ (z : ℕ). z * U + suc x * U) (omega arith)
 
 module _ (f : Format) where
   abbrev U : ℕ
@@ -168,10 +162,7 @@ module _ (f : Format) where
     pub overflows : (r : Float) → Nearest f ρ s r → ρ .atLeast (edgeNum f) (edgeDen f) → r ≡ inf s
     overflows nan n h = absurd (n .sign)
     overflows (inf t) n h = ap inf (n .sign)
-    overflows (fin t m e) n h = absurd (no-finite (fin t m e) n (finite (m * up e) (2 ^ suc (emax f) * down e) (fits-below f t m e (n .held))) h)
-      where
-        finite : (a b : ℕ) → a < b → a * 1 < b
-        finite a b h = omega arith
+    overflows (fin t m e) n h = absurd (no-finite (fin t m e) n (omega (arith, fits-below f t m e (n .held))) h)
 
 -- what is nearest to a fraction is an infinity exactly where the fraction is 2 ^ emax * (2 - 2 ^ -prec) or more
 pub nearest-overflows : (f : Format) (s : Bool) (a b : ℕ) (r : Float) → 0 < b → Nearest f (fraction a b) s r
