@@ -4,9 +4,6 @@ use borrow.Author.Needs.{needs}
 use Rattle.design_bandpass.proofs.bp_biquad_from_bp_pole_pair.Statement.{statement}
 use Rattle.design_bandpass.proofs.bp_biquad_from_bp_pole_pair.Tie as tie
 
-returns : tie.Need-returns
-unfolding bpBiquad
-returns c = c .bp-biquad-from-sum-and-product .ensures
-
 pub bp-biquad-from-bp-pole-pair-spec : {M : Type 1} → statement M
-bp-biquad-from-bp-pole-pair-spec = tie.close (tie.spec (λ c κs. search needs) returns)
+unfolding bpBiquad
+bp-biquad-from-bp-pole-pair-spec = tie.close (tie.spec (λ c κs. search needs) (λ c. c .bp-biquad-from-sum-and-product .ensures))

@@ -4,9 +4,6 @@ use borrow.Author.Needs.{needs}
 use Rattle.design_bandpass.proofs.bp_biquad_from_sum_and_product.Statement.{statement}
 use Rattle.design_bandpass.proofs.bp_biquad_from_sum_and_product.Tie as tie
 
-returns : tie.Need-returns
-unfolding bandBiquad
-returns c = c .new .ensures
-
 pub bp-biquad-from-sum-and-product-spec : {M : Type 1} → statement M
-bp-biquad-from-sum-and-product-spec = tie.close (tie.spec (λ c κs. search needs) returns)
+unfolding bandBiquad
+bp-biquad-from-sum-and-product-spec = tie.close (tie.spec (λ c κs. search needs) (λ c. c .new .ensures))

@@ -5,9 +5,6 @@ use borrow.Author.Needs.{needs}
 use Rattle.series.proofs.inverse.Statement.{statement}
 use Rattle.series.proofs.inverse.Tie as tie
 
-returns : tie.Need-returns
-unfolding inv
-returns c = refl
-
 pub inverse-spec : {M : Type 1} → statement M
-inverse-spec = tie.close (tie.spec (λ c. search needs) returns)
+unfolding inv
+inverse-spec = tie.close (tie.spec (λ c. search needs) (λ c. refl))

@@ -4,9 +4,6 @@ use Rattle.design_poles.specs.Butterworth.{denominatorOf}
 use Rattle.design_poles.proofs.butterworth.denominator_of.Statement.{statement}
 use Rattle.design_poles.proofs.butterworth.denominator_of.Tie as tie
 
-returns : tie.Need-returns
-unfolding denominatorOf
-returns c = refl
-
 pub denominator-of-spec : {M : Type 1} → statement M
-denominator-of-spec = tie.close (tie.spec returns)
+unfolding denominatorOf
+denominator-of-spec = tie.close (tie.spec (λ c. refl))

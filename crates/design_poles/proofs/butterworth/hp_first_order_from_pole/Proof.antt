@@ -4,9 +4,6 @@ use borrow.Author.Needs.{needs}
 use Rattle.design_poles.proofs.butterworth.hp_first_order_from_pole.Statement.{statement}
 use Rattle.design_poles.proofs.butterworth.hp_first_order_from_pole.Tie as tie
 
-returns : tie.Need-returns
-unfolding hpFirst
-returns c = c .new .ensures
-
 pub hp-first-order-from-pole-spec : {M : Type 1} → statement M
-hp-first-order-from-pole-spec = tie.close (tie.spec (λ c κs. search needs) returns)
+unfolding hpFirst
+hp-first-order-from-pole-spec = tie.close (tie.spec (λ c κs. search needs) (λ c. c .new .ensures))

@@ -4,9 +4,6 @@ use lib.Ieee.{ofBits}
 use Rattle.sections.proofs.first_order.FirstOrder.new.Statement.{statement}
 use Rattle.sections.proofs.first_order.FirstOrder.new.Tie as tie
 
-returns : tie.Need-returns
-unfolding ofBits
-returns c = refl
-
 pub new-spec : {M : Type 1} → statement M
-new-spec = tie.close (tie.spec returns)
+unfolding ofBits
+new-spec = tie.close (tie.spec (λ c. refl))

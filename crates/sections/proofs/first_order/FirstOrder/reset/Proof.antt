@@ -4,9 +4,6 @@ use lib.Ieee.{ofBits}
 use Rattle.sections.proofs.first_order.FirstOrder.reset.Statement.{statement}
 use Rattle.sections.proofs.first_order.FirstOrder.reset.Tie as tie
 
-returns : tie.Need-returns
-unfolding ofBits
-returns c = refl
-
 pub reset-spec : {M : Type 1} → statement M
-reset-spec = tie.close (tie.spec returns)
+unfolding ofBits
+reset-spec = tie.close (tie.spec (λ c. refl))

@@ -4,9 +4,6 @@ use borrow.Author.Needs.{needs}
 use Rattle.sections.proofs.section.Section.blank.Statement.{statement}
 use Rattle.sections.proofs.section.Section.blank.Tie as tie
 
-returns : tie.Need-returns
-unfolding ofBits
-returns c = c .new .ensures
-
 pub blank-spec : {M : Type 1} → statement M
-blank-spec = tie.close (tie.spec (λ c κs. search needs) returns)
+unfolding ofBits
+blank-spec = tie.close (tie.spec (λ c κs. search needs) (λ c. c .new .ensures))

@@ -4,9 +4,6 @@ use borrow.Author.Needs.{needs}
 use Rattle.sections.proofs.section.Section.identity.Statement.{statement}
 use Rattle.sections.proofs.section.Section.identity.Tie as tie
 
-returns : tie.Need-returns
-unfolding ofBits
-returns c = c .new .ensures
-
 pub identity-spec : {M : Type 1} → statement M
-identity-spec = tie.close (tie.spec (λ c κs. search needs) returns)
+unfolding ofBits
+identity-spec = tie.close (tie.spec (λ c κs. search needs) (λ c. c .new .ensures))
