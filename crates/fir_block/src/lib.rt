@@ -167,7 +167,8 @@ fn pass_some(
         × (checkTaps maxTaps (lentTaps (now taps) (now samples) n held window) ≡ true)
         × (k ≤ length (now input)) × (length (now input) ≤ length (now output)) ⌝ }
     ensures { λ r. ⌜ ranBlock (r .clouded) (lentTaps (now (taps .entry)) (now (samples .exit)) n (r .held) window) (now (output .exit))
-        ≡ block (fir maxTaps binary64) (lentTaps (now (taps .entry)) (now (samples .entry)) n held window) (take k (now (input .entry))) (now (output .entry)) ⌝ }
+        ≡ block (fir maxTaps binary64) (lentTaps (now (taps .entry)) (now (samples .entry)) n held window) (take k (now (input .entry)))
+        (now (output .entry)) ⌝ }
 {
     let mut held = held;
     let mut clouded: usize = 0;

@@ -204,6 +204,12 @@ add-down R u W h = omega arith
 add-lt : (R W : ℕ) → W < R → R + W < R + R
 add-lt R W h = omega arith
 
+pub mid-pos : (v w : Float) → 0 < midDen v w
+mid-pos v w = mul-pos (pow-pos 1) (mul-pos (den-pos v) (den-pos w))
+
+pub half-pos : (f : Format) → 0 < 2 * 2 ^ low f
+half-pos f = mul-pos (pow-pos 1) (pow-pos (low f))
+
 module _ (f : Format) (s : Bool) (ρ : Real) (law : Lawful ρ) (r : Float) (q k : ℕ) (value : num f r * 2 ^ low f ≡ q * 2 ^ k * den r)
     (lead : Leading (prec f) q k) (close : Close (prec f) (low f) (overflow f) ρ q k (Even f r)) where
   P : 0 < prec f
@@ -212,26 +218,20 @@ module _ (f : Format) (s : Bool) (ρ : Real) (law : Lawful ρ) (r : Float) (q k 
   L : ℕ
   L = 2 ^ low f
 
-  half-pos : 0 < 2 * 2 ^ low f
-  half-pos = mul-pos (pow-pos 1) (pow-pos (low f))
-
-  mid-pos : (w : Float) → 0 < midDen r w
-  mid-pos w = mul-pos (pow-pos 1) (mul-pos (den-pos r) (den-pos w))
-
   mid : (w : Float) (g : OnGrid f w) → midNum f r w * (2 * 2 ^ low f) ≡ (q * 2 ^ k + g .n * 2 ^ g .j) * midDen r w
   mid w g = middle (num f r) (den r) (num f w) (den w) (2 ^ low f) (q * 2 ^ k) (g .n * 2 ^ g .j) value (g .value)
 
   to-most : (w : Float) (g : OnGrid f w) → ρ .atMost (q * 2 ^ k + g .n * 2 ^ g .j) (2 * 2 ^ low f) → ρ .atMost (midNum f r w) (midDen r w)
-  to-most w g = law .higher (q * 2 ^ k + g .n * 2 ^ g .j) (2 * 2 ^ low f) (midNum f r w) (midDen r w) half-pos (mid-pos w) (le-of-eq (sym (mid w g)))
+  to-most w g = law .higher (q * 2 ^ k + g .n * 2 ^ g .j) (2 * 2 ^ low f) (midNum f r w) (midDen r w) (half-pos f) (mid-pos r w) (le-of-eq (sym (mid w g)))
 
   to-least : (w : Float) (g : OnGrid f w) → ρ .atLeast (q * 2 ^ k + g .n * 2 ^ g .j) (2 * 2 ^ low f) → ρ .atLeast (midNum f r w) (midDen r w)
-  to-least w g = law .lower (midNum f r w) (midDen r w) (q * 2 ^ k + g .n * 2 ^ g .j) (2 * 2 ^ low f) (mid-pos w) half-pos (le-of-eq (mid w g))
+  to-least w g = law .lower (midNum f r w) (midDen r w) (q * 2 ^ k + g .n * 2 ^ g .j) (2 * 2 ^ low f) (mid-pos r w) (half-pos f) (le-of-eq (mid w g))
 
   of-most : (w : Float) (g : OnGrid f w) → ρ .atMost (midNum f r w) (midDen r w) → ρ .atMost (q * 2 ^ k + g .n * 2 ^ g .j) (2 * 2 ^ low f)
-  of-most w g = law .higher (midNum f r w) (midDen r w) (q * 2 ^ k + g .n * 2 ^ g .j) (2 * 2 ^ low f) (mid-pos w) half-pos (le-of-eq (mid w g))
+  of-most w g = law .higher (midNum f r w) (midDen r w) (q * 2 ^ k + g .n * 2 ^ g .j) (2 * 2 ^ low f) (mid-pos r w) (half-pos f) (le-of-eq (mid w g))
 
   of-least : (w : Float) (g : OnGrid f w) → ρ .atLeast (midNum f r w) (midDen r w) → ρ .atLeast (q * 2 ^ k + g .n * 2 ^ g .j) (2 * 2 ^ low f)
-  of-least w g = law .lower (q * 2 ^ k + g .n * 2 ^ g .j) (2 * 2 ^ low f) (midNum f r w) (midDen r w) half-pos (mid-pos w) (le-of-eq (sym (mid w g)))
+  of-least w g = law .lower (q * 2 ^ k + g .n * 2 ^ g .j) (2 * 2 ^ low f) (midNum f r w) (midDen r w) (half-pos f) (mid-pos r w) (le-of-eq (sym (mid w g)))
 
   above-lt : (w : Float) (g : OnGrid f w) → Smaller f r w → q * 2 ^ k < g .n * 2 ^ g .j
   above-lt w g h = order (num f r) (den r) (num f w) (den w) (2 ^ low f) (q * 2 ^ k) (g .n * 2 ^ g .j) (pow-pos (low f)) value (g .value) h

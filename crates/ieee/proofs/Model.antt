@@ -13,7 +13,7 @@ use lib.Ieee.Digits.{size-lt}
 use lib.Ieee.Fits.{down-pos, eq→eqb}
 use Rattle.ieee.specs.Nearest.{Real, fraction, root, num, den, midNum, midDen, Nearest}
 use Rattle.ieee.specs.Sqrt.{Sqrt, isqrt, withSticky, rootOf, sqrtOf}
-use Rattle.ieee.proofs.Grid.{OnGrid, on-grid, den-pos, Lawful, middle}
+use Rattle.ieee.proofs.Grid.{mid-pos, half-pos, OnGrid, on-grid, Lawful, middle}
 use Rattle.ieee.proofs.Roots.{root-lawful}
 use Rattle.ieee.proofs.Fractions.{fraction-lawful, round-nearest}
 use Rattle.ieee.proofs.Unique.{sq-le-back}
@@ -87,12 +87,6 @@ module _ (f : Format) (s : Bool) (ρ σ : Real) (law : Lawful ρ) (law' : Lawful
     (most-back : (a : ℕ) → σ .atMost a (2 * 2 ^ low f) → ρ .atMost a (2 * 2 ^ low f))
     (least : (a : ℕ) → ρ .atLeast a (2 * 2 ^ low f) → σ .atLeast a (2 * 2 ^ low f))
     (least-back : (a : ℕ) → σ .atLeast a (2 * 2 ^ low f) → ρ .atLeast a (2 * 2 ^ low f)) where
-  half-pos : 0 < 2 * 2 ^ low f
-  half-pos = mul-pos (pow-pos 1) (pow-pos (low f))
-
-  mid-pos : (v w : Float) → 0 < midDen v w
-  mid-pos v w = mul-pos (pow-pos 1) (mul-pos (den-pos v) (den-pos w))
-
   abbrev count : (v w : Float) → OnGrid f v → OnGrid f w → ℕ
   count v w g o = g .n * 2 ^ g .j + o .n * 2 ^ o .j
 
@@ -102,14 +96,14 @@ module _ (f : Format) (s : Bool) (ρ σ : Real) (law : Lawful ρ) (law' : Lawful
   go-most : (ρ σ : Real) → Lawful ρ → Lawful σ → ((a : ℕ) → ρ .atMost a (2 * 2 ^ low f) → σ .atMost a (2 * 2 ^ low f)) → (v w : Float) → OnGrid f v → OnGrid f w
       → ρ .atMost (midNum f v w) (midDen v w) → σ .atMost (midNum f v w) (midDen v w)
   go-most ρ σ l l' k v w g o h =
-      l' .higher (count v w g o) (2 * 2 ^ low f) (midNum f v w) (midDen v w) half-pos (mid-pos v w) (le-of-eq (sym (mid v w g o)))
-      (k (count v w g o) (l .higher (midNum f v w) (midDen v w) (count v w g o) (2 * 2 ^ low f) (mid-pos v w) half-pos (le-of-eq (mid v w g o)) h))
+      l' .higher (count v w g o) (2 * 2 ^ low f) (midNum f v w) (midDen v w) (half-pos f) (mid-pos v w) (le-of-eq (sym (mid v w g o)))
+      (k (count v w g o) (l .higher (midNum f v w) (midDen v w) (count v w g o) (2 * 2 ^ low f) (mid-pos v w) (half-pos f) (le-of-eq (mid v w g o)) h))
 
   go-least : (ρ σ : Real) → Lawful ρ → Lawful σ → ((a : ℕ) → ρ .atLeast a (2 * 2 ^ low f) → σ .atLeast a (2 * 2 ^ low f)) → (v w : Float) → OnGrid f v
       → OnGrid f w → ρ .atLeast (midNum f v w) (midDen v w) → σ .atLeast (midNum f v w) (midDen v w)
   go-least ρ σ l l' k v w g o h =
-      l' .lower (midNum f v w) (midDen v w) (count v w g o) (2 * 2 ^ low f) (mid-pos v w) half-pos (le-of-eq (mid v w g o))
-      (k (count v w g o) (l .lower (count v w g o) (2 * 2 ^ low f) (midNum f v w) (midDen v w) half-pos (mid-pos v w) (le-of-eq (sym (mid v w g o))) h))
+      l' .lower (midNum f v w) (midDen v w) (count v w g o) (2 * 2 ^ low f) (mid-pos v w) (half-pos f) (le-of-eq (mid v w g o))
+      (k (count v w g o) (l .lower (count v w g o) (2 * 2 ^ low f) (midNum f v w) (midDen v w) (half-pos f) (mid-pos v w) (le-of-eq (sym (mid v w g o))) h))
 
   pub nearest-same : (r : Float) → Nearest f ρ s r → Nearest f σ s r
   nearest-same r n =

@@ -6,15 +6,15 @@ use mathlib.Core.Logic.{inl, inr}
 use mathlib.Core.Bool.{Bool}
 use Prim.Native.Nat.{ℕ, zero, suc, _+_, _-_, _*_, _^_, _≤_, _<_}
 use native.Mathlib.Nat.{le-refl, le-step, le-trans, le-of-eq, le-of-lt, add-comm, add-mul, lt-of-lt-of-le, lt-irrefl, not-le-of-lt, eq-or-lt-of-le, mul-assoc}
-use native.Mathlib.Nat.{mul-comm, mul-pos, mul-lt-mul-of-pos-right, eq-of-mul-eq-mul-right, pow-succ'}
+use native.Mathlib.Nat.{mul-comm, mul-lt-mul-of-pos-right, eq-of-mul-eq-mul-right, pow-succ'}
 use native.Mathlib.Omega.{arith}
 use lib.Dec.{T}
 use lib.Pow.{pow-add, pow-pos, pow-mono}
-use lib.Ieee.{Float, nan, inf, fin, Format, prec, emax, low, up, down, odd, fits}
+use lib.Ieee.{Float, nan, inf, fin, Format, prec, emax, low, odd, fits}
 use lib.Ieee.Exact.{odd-sign}
 use lib.Ieee.Fits.{two, two-le-pos, odd-fits, inf-fits}
 use Rattle.ieee.specs.Nearest.{Real, fraction, num, den, Smaller, midNum, midDen, edgeNum, edgeDen, Even, Nearest}
-use Rattle.ieee.proofs.Grid.{on-grid, fits-below, den-pos, overflow, Lawful, next-up, or-lt, order, middle, signed, counted}
+use Rattle.ieee.proofs.Grid.{mid-pos, half-pos, on-grid, fits-below, den-pos, overflow, Lawful, next-up, or-lt, order, middle, signed, counted}
 use Rattle.ieee.proofs.Fractions.{fraction-lawful, spare, spare-is, inf-value}
 use Rattle.ieee.proofs.Unique.{Cut, fraction-cut, back-order, not-next}
 
@@ -98,12 +98,6 @@ module _ (f : Format) where
   inf-is s = inf-value f s ∙ ap (λ (z : ℕ). z * den (inf s)) (spare-is f)
 
   module _ (s : Bool) (ρ : Real) (law : Lawful ρ) (cut : Cut ρ) where
-    half-pos : 0 < 2 * 2 ^ low f
-    half-pos = mul-pos (pow-pos 1) (pow-pos (low f))
-
-    mid-pos : (v w : Float) → 0 < midDen v w
-    mid-pos v w = mul-pos (pow-pos 1) (mul-pos (den-pos v) (den-pos w))
-
     mid-at : (v w : Float) (R W : ℕ) → num f v * 2 ^ low f ≡ R * den v → num f w * 2 ^ low f ≡ W * den w → midNum f v w * (2 * 2 ^ low f) ≡ (R + W) * midDen v w
     mid-at v w R W x y = middle (num f v) (den v) (num f w) (den w) (2 ^ low f) R W x y
 
@@ -117,7 +111,7 @@ module _ (f : Format) where
         let lt : Smaller f w (inf s) = back-order (num f w) (den w) (num f (inf s)) (den (inf s)) (2 ^ low f) top (overflow f) (den-pos w) (den-pos (inf s)) wv
         (inf-is s) top-lt in
         law .lower (edgeNum f) (edgeDen f) (midNum f (inf s) w) (midDen (inf s) w) (pow-pos (prec f)) (mid-pos (inf s) w)
-        (le-of-eq (eq-of-mul-eq-mul-right (2 * 2 ^ low f) half-pos (edgeNum f * midDen (inf s) w) (midNum f (inf s) w * edgeDen f)
+        (le-of-eq (eq-of-mul-eq-mul-right (2 * 2 ^ low f) (half-pos f) (edgeNum f * midDen (inf s) w) (midNum f (inf s) w * edgeDen f)
         (join (edgeNum f) (midDen (inf s) w) (2 * 2 ^ low f) (midNum f (inf s) w) (edgeDen f) (top + overflow f) edge-value
         (mid-at (inf s) w (overflow f) top (inf-is s) wv ∙ ap (λ (z : ℕ). z * midDen (inf s) w) (add-comm (overflow f) top)))))
         (n .fromBelow w held (signed s w top (2 ^ low f) v) lt)
@@ -144,7 +138,7 @@ module _ (f : Format) where
               (next-up (prec f) (2 ^ prec f - 1) (spare f) (o .n) (o .j) (two-le-pos (prec f) (two f)) (inr (lead-last (prec f) (two f))) (o .digits) g)))
         ] in
         let tie = law .lower (midNum f r (inf s)) (midDen r (inf s)) (edgeNum f) (edgeDen f) (mid-pos r (inf s)) (pow-pos (prec f))
-        (le-of-eq (eq-of-mul-eq-mul-right (2 * 2 ^ low f) half-pos (midNum f r (inf s) * edgeDen f) (edgeNum f * midDen r (inf s))
+        (le-of-eq (eq-of-mul-eq-mul-right (2 * 2 ^ low f) (half-pos f) (midNum f r (inf s) * edgeDen f) (edgeNum f * midDen r (inf s))
         (join (midNum f r (inf s)) (edgeDen f) (2 * 2 ^ low f) (edgeNum f) (midDen r (inf s)) (R + overflow f) m
         (edge-value ∙ ap (λ (z : ℕ). (z + overflow f) * edgeDen f) R-is)))) h in
         let e : Even f r = n .tieAbove (inf s) (inf-fits f s) refl lt tie in

@@ -20,7 +20,7 @@ use Rattle.ieee.specs.Nearest.{Real, fraction, root, num, den, HasSign, 
 use Rattle.ieee.specs.Sqrt.{Sqrt}
 use Rattle.ieee.proofs.Fractions.{round-nearest}
 use Rattle.ieee.proofs.Roots.{sq-lt}
-use Rattle.ieee.proofs.Grid.{on-grid, fits-below, den-pos, overflow, Leading, next-up, or-lt, order, middle, signed, counted}
+use Rattle.ieee.proofs.Grid.{mid-pos, on-grid, fits-below, den-pos, overflow, Leading, next-up, or-lt, order, middle, signed, counted}
 
 -- ---- what else any real number satisfies: no fraction above it is below one under it
 abbrev pub Cut : Real → Type 0
@@ -84,9 +84,6 @@ module _ (f : Format) (s : Bool) (ρ : Real) (cut : Cut ρ) (r r' : Float) (n : 
 
   swap-den : midDen r' r ≡ midDen r r'
   swap-den = ap (λ (z : ℕ). 2 * z) (mul-comm (den r') (den r))
-
-  mid-pos : (v w : Float) → 0 < midDen v w
-  mid-pos v w = mul-pos (pow-pos 1) (mul-pos (den-pos v) (den-pos w))
 
   pub no-two : Smaller f r r' → ⊥
   no-two lt =

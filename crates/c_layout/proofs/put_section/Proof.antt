@@ -12,7 +12,10 @@ returns c = set-seven _ (c .args .at) _ _ _ _ _ _ _ (omega (arith, c .pre))
 pub put-section-spec : {M : Type 1} → statement M
 put-section-spec =
     tie.close
-    (tie.spec (λ c. search needs) (λ c. search needs) (λ c. search needs) (λ c. search needs) (λ c. simp length-set (omega (arith, c .pre)))
-    (λ c. search needs) (λ c. search needs) (λ c. simp length-set (omega (arith, c .pre))) (λ c. search needs) (λ c. search needs) (λ c. simp length-set (omega (arith, c .pre)))
-    (λ c. search needs) (λ c. search needs) (λ c. simp length-set (omega (arith, c .pre))) (λ c. search needs) (λ c. search needs) (λ c. simp length-set (omega (arith, c .pre)))
+    (tie.spec (λ c. search needs) (λ c. search needs)
+    (λ c. search needs) (λ c. search needs) (λ c. simp length-set (omega (arith, c .pre)))
+    (λ c. search needs) (λ c. search needs) (λ c. simp length-set (omega (arith, c .pre)))
+    (λ c. search needs) (λ c. search needs) (λ c. simp length-set (omega (arith, c .pre)))
+    (λ c. search needs) (λ c. search needs) (λ c. simp length-set (omega (arith, c .pre)))
+    (λ c. search needs) (λ c. search needs) (λ c. simp length-set (omega (arith, c .pre)))
     (λ c. search needs) (λ c. search needs) (λ c. simp length-set (omega (arith, c .pre))) (λ c. search needs) returns)
