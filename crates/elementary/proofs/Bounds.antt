@@ -129,12 +129,6 @@ scale-pos nan h = zero-le
 scale-pos (inf s) h = zero-le
 scale-pos (fin s m e) h = near-bound (fin s m e) 1023 refl h
 
-over : (m d : ℕ) → m * 1 ≤ 709 * d → m * 2 ^ 53 ≤ 1023 * (6243314768165359 * d)
-over m d h = omega arith
-
-under : (m d : ℕ) → m * 1 ≤ 708 * d → m * 2 ^ 53 ≤ 1022 * (6243314768165359 * d)
-under m d h = omega arith
-
 -- x / ln 2: ln 2's float is 6243314768165359 / 2 ^ 53
 quotient : (s : Bool) (m : ℕ) (e : ℤ) → fin s m e ⊘ ln2 ≡ round binary64 s (m * up e * 2 ^ 53) (6243314768165359 * down e)
 unfolding Ieee.div ofBits
@@ -153,14 +147,14 @@ ranged (fin false m e) p q n =
     let l : m * up e * 1 ≤ 709 * down e = unfold lt ofBits in ltb-false (709 * down e) (m * up e * 1) p in
     let B : 0 < 6243314768165359 * down e = mul-pos (lit< tt) (down-pos e) in
     let r = round binary64 false (m * up e * 2 ^ 53) (6243314768165359 * down e) in
-    let w = round-within 1023 false (m * up e * 2 ^ 53) (6243314768165359 * down e) B (lit≤ tt) (over (m * up e) (down e) l) in
+    let w = round-within 1023 false (m * up e * 2 ^ 53) (6243314768165359 * down e) B (lit≤ tt) (omega arith) in
     subst⁻¹ (λ (z : Float). Within 1023 z × Scale (nearestOf z)) (quotient false m e)
     (w, subst (λ (z : Float). Scale (nearestOf z)) (round-abs false (m * up e * 2 ^ 53) (6243314768165359 * down e)) (scale-pos r w))
 ranged (fin true m e) p q n =
     let l : m * up e * 1 ≤ 708 * down e = unfold lt ofBits Ieee.neg in ltb-false (708 * down e) (m * up e * 1) q in
     let B : 0 < 6243314768165359 * down e = mul-pos (lit< tt) (down-pos e) in
     let r = round binary64 true (m * up e * 2 ^ 53) (6243314768165359 * down e) in
-    let w = round-within 1022 true (m * up e * 2 ^ 53) (6243314768165359 * down e) B (lit≤ tt) (under (m * up e) (down e) l) in
+    let w = round-within 1022 true (m * up e * 2 ^ 53) (6243314768165359 * down e) B (lit≤ tt) (omega arith) in
     subst⁻¹ (λ (z : Float). Within 1023 z × Scale (nearestOf z)) (quotient true m e) (within-mono 1022 1023 r (lit≤ tt) w, scale-neg r w)
 
 pub ranged-within : (x : Float) → Ranged x → Within (2 ^ 52) (x ⊘ ln2)

@@ -104,14 +104,11 @@ rest-exact nan f h = unfold Within in absurd h
 rest-exact (inf s) f h = unfold Within in absurd h
 rest-exact (fin s m e) f h =
     let w = m * up e / down e in
-    let r : m * up e - w * down e ≡ m * up e % down e = left (m * up e) (w * down e) (m * up e % down e) (div-add-mod' (m * up e) (down e)) in
+    let r : m * up e - w * down e ≡ m * up e % down e = (omega (arith, div-add-mod' (m * up e) (down e))) in
     subst (λ (z : Float). HasValue z false (m * up e % down e) (down e))
     (sym (rest-rounds m e (round binary64 false w 1) w (div-mul-le-self (m * up e) (down e))
     (round-whole binary64 false w (le-trans (whole-le (fin s m e) h) (lit≤ tt))) ∙ ap (λ (z : ℕ). round binary64 false z (down e)) r))
     (frac-exact m e (fits-digits binary64 s m e f) (fits-deep binary64 s m e f))
-  where
-    left : (A w r : ℕ) → w + r ≡ A → A - w ≡ r
-    left A w r h = omega arith
 
 -- ---- x / d is r / b, so twice x compares with d as twice r with b
 scaled : (x d r b : ℕ) → x * b ≡ r * d → x * 2 * b ≡ r * 2 * d

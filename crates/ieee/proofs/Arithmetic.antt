@@ -71,79 +71,24 @@ sum-minus f a b c C = record {
 -- a - b, and b - a
 module _ (f : Format) (a b c : ℕ) (C : 0 < c) where
   less : (t : Bool) → (T t → a < b) → (T (not t) → b ≤ a) → Rounded f (a + 0) (0 + b) c false (cond t (round f true (b - a) c) (round f false (a - b) c))
-  less true h g = record {
-    plus = λ l. absurd (no a b (h tt) l);
-    minus = λ l. at f true (b - a) (0 + b - (a + 0)) c (same a b) C;
-    none = λ e. absurd (no' a b (h tt) e);
-  }
-    where
-      no : (a b : ℕ) → a < b → 0 + b < a + 0 → ⊥
-      no a b x y = omega arith
-
-      no' : (a b : ℕ) → a < b → a + 0 ≡ 0 + b → ⊥
-      no' a b x y = omega arith
-
-      same : (a b : ℕ) → b - a ≡ 0 + b - (a + 0)
-      same a b = omega arith
-  less false h g = record {
-    plus = λ l. at f false (a - b) (a + 0 - (0 + b)) c (same a b) C;
-    minus = λ l. absurd (no a b (g tt) l);
-    none = λ e. at-zero f false (a - b) c (zero-of a b e) C;
-  }
-    where
-      no : (a b : ℕ) → b ≤ a → a + 0 < 0 + b → ⊥
-      no a b x y = omega arith
-
-      same : (a b : ℕ) → a - b ≡ a + 0 - (0 + b)
-      same a b = omega arith
-
-      zero-of : (a b : ℕ) → a + 0 ≡ 0 + b → a - b ≡ 0
-      zero-of a b e = omega arith
+  less true h g = let l = h tt in
+      record { plus = λ z. absurd (omega arith); minus = λ z. at f true (b - a) (0 + b - (a + 0)) c (omega arith) C; none = λ e. absurd (omega arith) }
+  less false h g = let l = g tt in
+      record {
+        plus = λ z. at f false (a - b) (a + 0 - (0 + b)) c (omega arith) C;
+        minus = λ z. absurd (omega arith);
+        none = λ e. at-zero f false (a - b) c (omega arith) C;
+      }
 
   more : (t u : Bool) → (T t → a < b) → (T (not t) → b ≤ a) → (T u → b < a) → (T (not u) → a ≤ b)
       → Rounded f (0 + b) (a + 0) c false (cond t (round f false (b - a) c) (round f u (a - b) c))
-  more true u h g k l = record {
-    plus = λ z. at f false (b - a) (0 + b - (a + 0)) c (same a b) C;
-    minus = λ z. absurd (no a b (h tt) z);
-    none = λ e. absurd (no' a b (h tt) e);
-  }
-    where
-      no : (a b : ℕ) → a < b → 0 + b < a + 0 → ⊥
-      no a b x y = omega arith
-
-      no' : (a b : ℕ) → a < b → 0 + b ≡ a + 0 → ⊥
-      no' a b x y = omega arith
-
-      same : (a b : ℕ) → b - a ≡ 0 + b - (a + 0)
-      same a b = omega arith
-  more false true h g k l = record {
-    plus = λ z. absurd (no a b (g tt) z);
-    minus = λ z. at f true (a - b) (a + 0 - (0 + b)) c (same a b) C;
-    none = λ e. absurd (no' a b (k tt) e);
-  }
-    where
-      no : (a b : ℕ) → b ≤ a → a + 0 < 0 + b → ⊥
-      no a b x y = omega arith
-
-      no' : (a b : ℕ) → b < a → 0 + b ≡ a + 0 → ⊥
-      no' a b x y = omega arith
-
-      same : (a b : ℕ) → a - b ≡ a + 0 - (0 + b)
-      same a b = omega arith
-  more false false h g k l = record {
-    plus = λ z. absurd (no a b (g tt) z);
-    minus = λ z. absurd (no' a b (l tt) z);
-    none = λ e. at-zero f false (a - b) c (zero-of a b e) C;
-  }
-    where
-      no : (a b : ℕ) → b ≤ a → a + 0 < 0 + b → ⊥
-      no a b x y = omega arith
-
-      no' : (a b : ℕ) → a ≤ b → 0 + b < a + 0 → ⊥
-      no' a b x y = omega arith
-
-      zero-of : (a b : ℕ) → 0 + b ≡ a + 0 → a - b ≡ 0
-      zero-of a b e = omega arith
+  more true u h g k m = let l = h tt in
+      record { plus = λ z. at f false (b - a) (0 + b - (a + 0)) c (omega arith) C; minus = λ z. absurd (omega arith); none = λ e. absurd (omega arith) }
+  more false true h g k m = let l = k tt in
+      record { plus = λ z. absurd (omega arith); minus = λ z. at f true (a - b) (a + 0 - (0 + b)) c (omega arith) C; none = λ e. absurd (omega arith) }
+  more false false h g k m = let l = g tt in
+      let n = m tt in
+      record { plus = λ z. absurd (omega arith); minus = λ z. absurd (omega arith); none = λ e. at-zero f false (a - b) c (omega arith) C }
 
 c-pos : (e d : ℤ) → 0 < down e * down d
 c-pos e d = mul-pos (down-pos e) (down-pos d)

@@ -11,7 +11,7 @@ use native.Mathlib.Omega.{arith}
 use lib.Dec.{T, isLe, isEq, ltb, eqb, leb→le, nleb→lt, eqb→eq, eqb-refl, ltb→lt, nltb→le}
 use lib.Arith.{lt-of-le-ne}
 use lib.Pow.{pow-add, pow-pos, pow-mono, pow-lt}
-use lib.Ieee.{Float, inf, Format, prec, emax, low, size, nearest, odd, units, round}
+use lib.Ieee.{Float, inf, Format, prec, emax, low, nearest, odd, units, round}
 use lib.Ieee.Digits.{size-reaches}
 use lib.Ieee.Fits.{two, reach, two-le-pos, nearest-le, kept-lt, odd-fits, inf-fits, round-is}
 use lib.Ieee.Exact.{odd-sign}
@@ -57,10 +57,7 @@ up-half w r u h l = record { lo = omega arith; hi = omega arith; tie-lo = λ g. 
 tie-half : (w r u b : ℕ) → w % 2 ≡ b → r * 2 ≡ u → Half (w + b) u (w * u + r)
 tie-half w r u zero e h = record { lo = omega arith; hi = omega arith; tie-lo = λ g. omega arith; tie-hi = λ g. omega arith }
 tie-half w r u (suc zero) e h = record { lo = omega arith; hi = omega arith; tie-lo = λ g. omega arith; tie-hi = λ g. omega arith }
-tie-half w r u (suc (suc b)) e h = absurd (no w b e)
-  where
-    no : (w b : ℕ) → w % 2 ≡ suc (suc b) → ⊥
-    no w b e = omega arith
+tie-half w r u (suc (suc b)) e h = absurd (omega arith)
 
 half-of : (w r u : ℕ) (o : Ordering) → Cmp o (r * 2) u → r < u → Half (nearest w o) u (w * u + r)
 half-of w r u Ordering·lt c l = down-half w r u c
@@ -73,15 +70,12 @@ closest-half n u z = subst (λ (x : ℕ). Half (closest n u) u x) (div-add-mod' 
 
 -- ---- the digits that `round` keeps
 
-all-in-use : (z p : ℕ) → 0 < p → 0 < z - p → p - 1 + (z - p) < z
-all-in-use z p P h = omega arith
-
 -- where digits are dropped, n / den is 2 ^ (p - 1) units at least
 full : (p n den : ℕ) → 0 < p → 0 < den → 0 < drop p n den → 2 ^ (p - 1) * (den * 2 ^ drop p n den) ≤ n
 full p n den P D K =
     let k = drop p n den in
     let a : 2 ^ (p - 1) * 2 ^ k ≤ n / den = le-trans (le-of-eq (sym (pow-add 2 (p - 1) k)))
-    (size-reaches (n / den) (p - 1 + k) (all-in-use (size (n / den)) p P K)) in
+    (size-reaches (n / den) (p - 1 + k) (omega arith)) in
     le-trans (le-of-eq (ap (λ (x : ℕ). 2 ^ (p - 1) * x) (mul-comm den (2 ^ k)) ∙ sym (mul-assoc (2 ^ (p - 1)) (2 ^ k) den))) (le-div-iff-mul-le D .0 a)
 
 zero-or-pos : (k : ℕ) → (k ≡ 0) ⊎ (0 < k)
@@ -105,23 +99,11 @@ kept-le p n den =
 
 -- ---- an even number of units makes an even significand, 2 ^ p of them too
 
-halves : (q : ℕ) → q % 2 ≡ 0 → q ≡ 2 * (q / 2)
-halves q h = omega arith
-
-before : (p : ℕ) → 2 ≤ p → suc (p - 1) ≡ p
-before p h = omega arith
-
-twice-before : (p : ℕ) → 2 ≤ p → suc (p - 2) ≡ p - 1
-twice-before p h = omega arith
-
 less-one : (p : ℕ) → 2 ≤ p → p - 1 < p
 less-one p h = omega arith
 
 carried : (p k : ℕ) → 2 ≤ p → 2 ^ p * 2 ^ k ≡ 2 ^ (p - 1) * 2 ^ suc k
-carried p k h = sym (pow-add 2 p k) ∙ ap (λ (x : ℕ). 2 ^ x) (same p k h) ∙ pow-add 2 (p - 1) (suc k)
-  where
-    same : (p k : ℕ) → 2 ≤ p → p + k ≡ p - 1 + suc k
-    same p k h = omega arith
+carried p k h = sym (pow-add 2 p k) ∙ ap (λ (x : ℕ). 2 ^ x) (omega arith) ∙ pow-add 2 (p - 1) (suc k)
 
 pub even-of : (f : Format) (r : Float) (q k : ℕ) → num f r * 2 ^ low f ≡ q * 2 ^ k * den r → q ≤ 2 ^ prec f → Leading (prec f) q k → q % 2 ≡ 0 → Even f r
 even-of f r q k v m l e = elim (eq-or-lt-of-le m) [
@@ -132,9 +114,9 @@ even-of f r q k v m l e = elim (eq-or-lt-of-le m) [
     digits = pow-lt (less-one (prec f) (two f));
     leading = inr (le-refl (2 ^ (prec f - 1)));
     half = 2 ^ (prec f - 2);
-    even = ap (λ (x : ℕ). 2 ^ x) (sym (twice-before (prec f) (two f))) ∙ pow-succ' 2 (prec f - 2);
+    even = ap (λ (x : ℕ). 2 ^ x) (sym (omega (arith, two f))) ∙ pow-succ' 2 (prec f - 2);
   }
-  | inr t ↦ record { c = q; k = k; value = v; digits = t; leading = l; half = q / 2; even = halves q e }
+  | inr t ↦ record { c = q; k = k; value = v; digits = t; leading = l; half = q / 2; even = omega arith }
 ]
 
 -- ---- how near the kept number is to the fraction a / b
@@ -148,10 +130,10 @@ module _ (p l O a b q k : ℕ) (B : 0 < b) (half : Half q (b * 2 ^ k) (a * 2 ^ l
   fraction-close = record {
     above = λ _ x h. above q (2 ^ k) (a * 2 ^ l) (a * (2 * 2 ^ l)) x b (twice-n a (2 ^ l)) (half .hi) (mul-le-mul-right b h);
     below = λ x h. below q (2 ^ k) (a * 2 ^ l) (a * (2 * 2 ^ l)) x b (twice-n a (2 ^ l)) (half .lo) (mul-le-mul-right b h);
-    tie-above = λ _ x h m. ev (half .tie-hi (tied-up q (2 ^ k) (a * 2 ^ l) (a * (2 * 2 ^ l)) x b (twice-n a (2 ^ l)) m (mul-le-mul-right b h)));
-    tie-below = λ x h m. ev (half .tie-lo (tied-down q (2 ^ k) (a * 2 ^ l) (a * (2 * 2 ^ l)) x b (twice-n a (2 ^ l)) m (mul-le-mul-right b h)));
-    edge = λ z K x h. edged q (2 ^ k) (a * 2 ^ l) (a * (2 * 2 ^ l)) x b (twice-n a (2 ^ l)) (edge z K) (mul-le-mul-right b (le-of-lt h));
-    tie-edge = λ z K x h m. absurd (not-edged q (2 ^ k) (a * 2 ^ l) (a * (2 * 2 ^ l)) x b (twice-n a (2 ^ l)) (edge z K) m (mul-lt-mul-of-pos-right h B));
+    tie-above = λ _ x h m. ev (half .tie-hi (omega (arith, twice-n a (2 ^ l), mul-le-mul-right b h)));
+    tie-below = λ x h m. ev (half .tie-lo (omega (arith, twice-n a (2 ^ l), mul-le-mul-right b h)));
+    edge = λ z K x h. omega (arith, twice-n a (2 ^ l), edge z K, mul-le-mul-right b (le-of-lt h));
+    tie-edge = λ z K x h m. absurd (omega (arith, twice-n a (2 ^ l), edge z K, mul-lt-mul-of-pos-right h B));
   }
     where
       above : (q U n N x b : ℕ) → n + n ≡ N → n + n ≤ q * (b * U) + q * (b * U) + b * U → (q * U + q * U + U) * b ≤ x * b → N ≤ x * b
@@ -160,18 +142,6 @@ module _ (p l O a b q k : ℕ) (B : 0 < b) (half : Half q (b * 2 ^ k) (a * 2 ^ l
       below : (q U n N x b : ℕ) → n + n ≡ N → q * (b * U) + q * (b * U) ≤ n + n + b * U → (x + U) * b ≤ (q * U + q * U) * b → x * b ≤ N
       below q U n N x b e h g = omega arith
 
-      tied-up : (q U n N x b : ℕ) → n + n ≡ N → x * b ≤ N → (q * U + q * U + U) * b ≤ x * b → q * (b * U) + q * (b * U) + b * U ≤ n + n
-      tied-up q U n N x b e h g = omega arith
-
-      tied-down : (q U n N x b : ℕ) → n + n ≡ N → N ≤ x * b → (x + U) * b ≤ (q * U + q * U) * b → n + n + b * U ≤ q * (b * U) + q * (b * U)
-      tied-down q U n N x b e h g = omega arith
-
-      edged : (q U n N x b : ℕ) → n + n ≡ N → q * (b * U) ≤ n → x * b ≤ (q * U + q * U) * b → x * b ≤ N
-      edged q U n N x b e h g = omega arith
-
-      not-edged : (q U n N x b : ℕ) → n + n ≡ N → q * (b * U) ≤ n → N ≤ x * b → x * b < (q * U + q * U) * b → ⊥
-      not-edged q U n N x b e h m g = omega arith
-
 -- ---- from 2 ^ (emax + 1) on: an infinity
 
 -- `overflow` is 2 ^ prec * 2 ^ spare
@@ -179,10 +149,7 @@ abbrev pub spare : Format → ℕ
 spare f = low f + suc (emax f) - prec f
 
 pub spare-is : (f : Format) → 2 ^ prec f * 2 ^ spare f ≡ overflow f
-spare-is f = sym (pow-add 2 (prec f) (spare f)) ∙ ap (λ (x : ℕ). 2 ^ x) (sum (prec f) (emax f) (two f) (reach f))
-  where
-    sum : (p e : ℕ) → 2 ≤ p → p ≤ suc e → p + (e + p - 2 + suc e - p) ≡ e + p - 2 + suc e
-    sum p e h g = omega arith
+spare-is f = sym (pow-add 2 (prec f) (spare f)) ∙ ap (λ (x : ℕ). 2 ^ x) (omega (arith, two f, reach f))
 
 pub inf-value : (f : Format) (s : Bool) → num f (inf s) * 2 ^ low f ≡ 2 ^ prec f * 2 ^ spare f * den (inf s)
 inf-value f s = mul-comm (2 ^ suc (emax f)) (2 ^ low f) ∙ sym (pow-add 2 (low f) (suc (emax f))) ∙ sym (spare-is f) ∙ sym (mul-one (2 ^ prec f * 2 ^ spare f))
@@ -191,7 +158,7 @@ inf-lead : (f : Format) → Leading (prec f) (2 ^ prec f) (spare f)
 inf-lead f = inr (pow-mono (le-of-lt (less-one (prec f) (two f))))
 
 pow-even : (p : ℕ) → 2 ≤ p → 2 ^ p % 2 ≡ 0
-pow-even p h = go (2 ^ p) (2 ^ (p - 1)) (ap (λ (x : ℕ). 2 ^ x) (sym (before p h)) ∙ pow-succ' 2 (p - 1))
+pow-even p h = go (2 ^ p) (2 ^ (p - 1)) (ap (λ (x : ℕ). 2 ^ x) (sym (omega arith)) ∙ pow-succ' 2 (p - 1))
   where
     go : (x y : ℕ) → x ≡ 2 * y → x % 2 ≡ 0
     go x y e = omega arith
@@ -215,37 +182,31 @@ over f a b B h x g =
             | inl e ↦
                 let u' : 2 ^ p * 2 ^ k ≤ q * 2 ^ k = subst (λ (z : ℕ). 2 ^ p * 2 ^ z ≤ q * 2 ^ k) (sym e) u in
                 let m : q ≡ 2 ^ p = le-antisymm (kept-le p n b) (le-of-mul-le-mul-right u' (pow-pos k)) in
-                at-top (2 ^ p) (2 ^ j) n x b (a * (2 * 2 ^ low f)) (twice-n a (2 ^ low f))
-                (subst (λ (z : ℕ). 2 ^ p * (b * 2 ^ z) + 2 ^ p * (b * 2 ^ z) ≤ n + n + b * 2 ^ z) e
-                (subst (λ (z : ℕ). z * (b * 2 ^ k) + z * (b * 2 ^ k) ≤ n + n + b * 2 ^ k) m (closest-half n (b * 2 ^ k) (mul-pos B (pow-pos k)) .lo)))
-                (mul-le-mul-right b g)
+                (omega (
+                  arith,
+                  twice-n a (2 ^ low f),
+                  subst (λ (z : ℕ). 2 ^ p * (b * 2 ^ z) + 2 ^ p * (b * 2 ^ z) ≤ n + n + b * 2 ^ z) e
+                      (subst (λ (z : ℕ). z * (b * 2 ^ k) + z * (b * 2 ^ k) ≤ n + n + b * 2 ^ k) m (closest-half n (b * 2 ^ k) (mul-pos B (pow-pos k)) .lo)),
+                  mul-le-mul-right b g,
+                ))
             | inr l ↦ absurd (not-le-of-lt (lt-of-le-of-lt (mul-le-mul-right (2 ^ k) (kept-le p n b)) (below p k j l)) u)
           ]
       | inr jk ↦
-          past (2 ^ p) (2 ^ j) n x b (a * (2 * 2 ^ low f)) (twice-n a (2 ^ low f))
-          (le-trans (mul-le-mul-right b (le-trans (le-of-eq (carried p j (two f))) (mul-le (2 ^ (p - 1)) (suc j) k jk)))
-          (le-trans (le-of-eq (regroup (2 ^ (p - 1)) (2 ^ k) b)) (full p n b (two-le-pos p (two f)) B (pos j k jk))))
-          (mul-le-mul-right b g)
+          (omega (
+            arith,
+            twice-n a (2 ^ low f),
+            le-trans (mul-le-mul-right b (le-trans (le-of-eq (carried p j (two f))) (mul-le (2 ^ (p - 1)) (suc j) k jk)))
+                (le-trans (le-of-eq (omega arith)) (full p n b (two-le-pos p (two f)) B (omega arith))),
+            mul-le-mul-right b g,
+          ))
     ]
   where
-    at-top : (q U n x b N : ℕ) → n + n ≡ N → q * (b * U) + q * (b * U) ≤ n + n + b * U → (x + U) * b ≤ (q * U + q * U) * b → x * b ≤ N
-    at-top q U n x b N e h g = omega arith
-
-    past : (q U n x b N : ℕ) → n + n ≡ N → q * U * b ≤ n → (x + U) * b ≤ (q * U + q * U) * b → x * b ≤ N
-    past q U n x b N e h g = omega arith
-
     below : (p k j : ℕ) → k < j → 2 ^ p * 2 ^ k < 2 ^ p * 2 ^ j
     below p k j l = subst (λ (z : ℕ). 2 ^ p * 2 ^ k < z) (mul-comm (2 ^ j) (2 ^ p))
         (subst (λ (z : ℕ). z < 2 ^ j * 2 ^ p) (mul-comm (2 ^ k) (2 ^ p)) (mul-lt-mul-of-pos-right (pow-lt l) (pow-pos p)))
 
     mul-le : (c i k : ℕ) → i ≤ k → c * 2 ^ i ≤ c * 2 ^ k
     mul-le c i k l = mul-le-mul-left c (pow-mono l)
-
-    regroup : (c U b : ℕ) → c * U * b ≡ c * (b * U)
-    regroup c U b = omega arith
-
-    pos : (j k : ℕ) → j < k → 0 < k
-    pos j k l = omega arith
 
 no-power : (p : ℕ) → 2 ≤ p → 2 ^ p ≡ 2 ^ (p - 1) → ⊥
 no-power p h e = lt-irrefl (2 ^ (p - 1)) (lt-of-lt-of-le (pow-lt (less-one p h)) (le-of-eq e))

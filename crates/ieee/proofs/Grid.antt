@@ -42,15 +42,9 @@ place m l (negsuc a) h = (
       ∙ sym (mul-assoc m (2 ^ (l - suc a)) (2 ^ suc a)),
 )
 
-zero-value : (u d l : ℕ) → 0 * u * l ≡ 0 * 1 * d
-zero-value u d l = omega arith
-
 -- a / d is W / L, and below T: so W is below O, which is T * L
 pub under : (a d L W T O : ℕ) → 0 < L → a * L ≡ W * d → O ≡ L * T → a < T * d → W < O
-under a d L W T O l x o h = lt-of-mul-lt-mul-right d (subst (λ (z : ℕ). W * d < z * d) (sym o) (go (mul-lt-mul-of-pos-right h l)))
-  where
-    go : a * L < T * d * L → W * d < L * T * d
-    go g = omega arith
+under a d L W T O l x o h = lt-of-mul-lt-mul-right d (subst (λ (z : ℕ). W * d < z * d) (sym o) (omega (arith, mul-lt-mul-of-pos-right h l)))
 
 -- what `fits` says of m * 2 ^ e: m has prec digits, 2 ^ e is no finer than the smallest value, and the whole is below 2 ^ (emax + 1)
 pub fits-digits : (f : Format) (s : Bool) (m : ℕ) (e : ℤ) → T (fits f (fin s m e)) → m < 2 ^ prec f
@@ -91,7 +85,7 @@ on-grid f s (inf t) h g = record {
 on-grid f s (fin t zero e) h g = record {
   n = 0;
   j = 0;
-  value = zero-value (up e) (down e) (2 ^ low f);
+  value = omega arith;
   digits = pow-pos (prec f);
   reach = le-trans (le-of-eq (zero-mul (2 ^ 0))) zero-le;
 }
@@ -132,17 +126,11 @@ coarser : (n j k : ℕ) → k ≤ j → n * 2 ^ j ≡ n * 2 ^ (j - k) * 2 ^ k
 coarser n j k h = ap (λ (x : ℕ). n * x) (ap (λ (x : ℕ). 2 ^ x) (sym (back j k h)) ∙ pow-add 2 (j - k) k) ∙ sym (mul-assoc n (2 ^ (j - k)) (2 ^ k))
 
 one-more : (q n u : ℕ) → q * u < n * u → q * u + u ≤ n * u
-one-more q n u h = le-trans (le-of-eq (suc-row q u)) (mul-le-mul-right u (lt-of-mul-lt-mul-right u h))
-  where
-    suc-row : (q u : ℕ) → q * u + u ≡ suc q * u
-    suc-row q u = omega arith
-
-room : (p j k : ℕ) → 0 < p → j < k → p + j ≤ p - 1 + k
-room p j k P h = omega arith
+one-more q n u h = le-trans (le-of-eq (omega arith)) (mul-le-mul-right u (lt-of-mul-lt-mul-right u h))
 
 -- with fewer places it lies below 2 ^ (p - 1) * 2 ^ k
 finer : (p n j k : ℕ) → 0 < p → n < 2 ^ p → j < k → n * 2 ^ j < 2 ^ (p - 1) * 2 ^ k
-finer p n j k P h l = lt-of-lt-of-le (shl-lt p j h) (le-trans (pow-mono (room p j k P l)) (le-of-eq (pow-add 2 (p - 1) k)))
+finer p n j k P h l = lt-of-lt-of-le (shl-lt p j h) (le-trans (pow-mono (omega arith)) (le-of-eq (pow-add 2 (p - 1) k)))
 
 no-lt-zero : (j k : ℕ) → k ≡ 0 → j < k → ⊥
 no-lt-zero j k e h = omega arith
@@ -154,9 +142,6 @@ or-lt j k = go (ltb j k) (ltb→lt j k) (nltb→le j k)
     go true h g = inr (h tt)
     go false h g = inl (g tt)
 
-clash : (x y z : ℕ) → x < y → y ≤ z → z < x → ⊥
-clash x y z a b c = omega arith
-
 pub next-up : (p q k n j : ℕ) → 0 < p → Leading p q k → n < 2 ^ p → q * 2 ^ k < n * 2 ^ j → q * 2 ^ k + 2 ^ k ≤ n * 2 ^ j
 next-up p q k n j P L N h =
     elim (or-lt j k) [
@@ -166,7 +151,7 @@ next-up p q k n j P L N h =
       | inr lt ↦
           elim L [
             | inl z ↦ absurd (no-lt-zero j k z lt)
-            | inr b ↦ absurd (clash (n * 2 ^ j) (2 ^ (p - 1) * 2 ^ k) (q * 2 ^ k) (finer p n j k P N lt) (mul-le-mul-right (2 ^ k) b) h)
+            | inr b ↦ absurd (omega (arith, finer p n j k P N lt, mul-le-mul-right (2 ^ k) b))
           ]
     ]
 
@@ -183,22 +168,15 @@ next-down p q k n j P L N h =
             | inr b ↦
                 elim (eq-or-lt-of-le b) [
                   | inl e ↦ inr (sym e, lt-of-le-of-lt zero-le lt)
-                  | inr g ↦ inl (step (n * 2 ^ j) (2 ^ (p - 1) * 2 ^ k) (2 ^ k) (q * 2 ^ k) (finer p n j k P N lt)
-                      (one-more (2 ^ (p - 1)) q (2 ^ k) (mul-lt-mul-of-pos-right g (pow-pos k))))
+                  | inr g ↦ inl (omega (arith, finer p n j k P N lt, one-more (2 ^ (p - 1)) q (2 ^ k) (mul-lt-mul-of-pos-right g (pow-pos k))))
                 ]
           ]
     ]
-  where
-    step : (w b u v : ℕ) → w < b → b + u ≤ v → w + u ≤ v
-    step w b u v x y = omega arith
 
 -- ---- fractions, in smallest values
 
 pub order : (a d b c L R W : ℕ) → 0 < L → a * L ≡ R * d → b * L ≡ W * c → a * c < b * d → R < W
-order a d b c L R W l x y h = lt-of-mul-lt-mul-right (d * c) (num-lt (mul-lt-mul-of-pos-right h l))
-  where
-    num-lt : a * c * L < b * d * L → R * (d * c) < W * (d * c)
-    num-lt g = omega (arith, ap (λ (z : ℕ). z * c) x, ap (λ (z : ℕ). z * d) y)
+order a d b c L R W l x y h = lt-of-mul-lt-mul-right (d * c) (omega (arith, ap (λ (z : ℕ). z * c) x, ap (λ (z : ℕ). z * d) y, mul-lt-mul-of-pos-right h l))
 
 pub middle : (a d b c L R W : ℕ) → a * L ≡ R * d → b * L ≡ W * c → (a * c + b * d) * (2 * L) ≡ (R + W) * (2 * (d * c))
 middle a d b c L R W x y = omega (arith, ap (λ (z : ℕ). z * c) x, ap (λ (z : ℕ). z * d) y)
@@ -220,14 +198,17 @@ pub record Close (p l O : ℕ) (ρ : Real) (q k : ℕ) (Ev : Type 0) : Type 0 wh
   pub edge : q ≡ 2 ^ (p - 1) → 0 < k → (a : ℕ) → a < q * 2 ^ k + q * 2 ^ k → ρ .atLeast a (2 * 2 ^ l)
   pub tie-edge : q ≡ 2 ^ (p - 1) → 0 < k → (a : ℕ) → a < q * 2 ^ k + q * 2 ^ k → ρ .atMost a (2 * 2 ^ l) → Ev
 
-add-up : (R u W : ℕ) → R + u ≤ W → R + R + u ≤ R + W
-add-up R u W h = omega arith
-
 add-down : (R u W : ℕ) → W + u ≤ R → R + W + u ≤ R + R
 add-down R u W h = omega arith
 
 add-lt : (R W : ℕ) → W < R → R + W < R + R
 add-lt R W h = omega arith
+
+pub mid-pos : (v w : Float) → 0 < midDen v w
+mid-pos v w = mul-pos (pow-pos 1) (mul-pos (den-pos v) (den-pos w))
+
+pub half-pos : (f : Format) → 0 < 2 * 2 ^ low f
+half-pos f = mul-pos (pow-pos 1) (pow-pos (low f))
 
 module _ (f : Format) (s : Bool) (ρ : Real) (law : Lawful ρ) (r : Float) (q k : ℕ) (value : num f r * 2 ^ low f ≡ q * 2 ^ k * den r)
     (lead : Leading (prec f) q k) (close : Close (prec f) (low f) (overflow f) ρ q k (Even f r)) where
@@ -237,26 +218,20 @@ module _ (f : Format) (s : Bool) (ρ : Real) (law : Lawful ρ) (r : Float) (q k 
   L : ℕ
   L = 2 ^ low f
 
-  half-pos : 0 < 2 * 2 ^ low f
-  half-pos = mul-pos (pow-pos 1) (pow-pos (low f))
-
-  mid-pos : (w : Float) → 0 < midDen r w
-  mid-pos w = mul-pos (pow-pos 1) (mul-pos (den-pos r) (den-pos w))
-
   mid : (w : Float) (g : OnGrid f w) → midNum f r w * (2 * 2 ^ low f) ≡ (q * 2 ^ k + g .n * 2 ^ g .j) * midDen r w
   mid w g = middle (num f r) (den r) (num f w) (den w) (2 ^ low f) (q * 2 ^ k) (g .n * 2 ^ g .j) value (g .value)
 
   to-most : (w : Float) (g : OnGrid f w) → ρ .atMost (q * 2 ^ k + g .n * 2 ^ g .j) (2 * 2 ^ low f) → ρ .atMost (midNum f r w) (midDen r w)
-  to-most w g = law .higher (q * 2 ^ k + g .n * 2 ^ g .j) (2 * 2 ^ low f) (midNum f r w) (midDen r w) half-pos (mid-pos w) (le-of-eq (sym (mid w g)))
+  to-most w g = law .higher (q * 2 ^ k + g .n * 2 ^ g .j) (2 * 2 ^ low f) (midNum f r w) (midDen r w) (half-pos f) (mid-pos r w) (le-of-eq (sym (mid w g)))
 
   to-least : (w : Float) (g : OnGrid f w) → ρ .atLeast (q * 2 ^ k + g .n * 2 ^ g .j) (2 * 2 ^ low f) → ρ .atLeast (midNum f r w) (midDen r w)
-  to-least w g = law .lower (midNum f r w) (midDen r w) (q * 2 ^ k + g .n * 2 ^ g .j) (2 * 2 ^ low f) (mid-pos w) half-pos (le-of-eq (mid w g))
+  to-least w g = law .lower (midNum f r w) (midDen r w) (q * 2 ^ k + g .n * 2 ^ g .j) (2 * 2 ^ low f) (mid-pos r w) (half-pos f) (le-of-eq (mid w g))
 
   of-most : (w : Float) (g : OnGrid f w) → ρ .atMost (midNum f r w) (midDen r w) → ρ .atMost (q * 2 ^ k + g .n * 2 ^ g .j) (2 * 2 ^ low f)
-  of-most w g = law .higher (midNum f r w) (midDen r w) (q * 2 ^ k + g .n * 2 ^ g .j) (2 * 2 ^ low f) (mid-pos w) half-pos (le-of-eq (mid w g))
+  of-most w g = law .higher (midNum f r w) (midDen r w) (q * 2 ^ k + g .n * 2 ^ g .j) (2 * 2 ^ low f) (mid-pos r w) (half-pos f) (le-of-eq (mid w g))
 
   of-least : (w : Float) (g : OnGrid f w) → ρ .atLeast (midNum f r w) (midDen r w) → ρ .atLeast (q * 2 ^ k + g .n * 2 ^ g .j) (2 * 2 ^ low f)
-  of-least w g = law .lower (q * 2 ^ k + g .n * 2 ^ g .j) (2 * 2 ^ low f) (midNum f r w) (midDen r w) half-pos (mid-pos w) (le-of-eq (sym (mid w g)))
+  of-least w g = law .lower (q * 2 ^ k + g .n * 2 ^ g .j) (2 * 2 ^ low f) (midNum f r w) (midDen r w) (half-pos f) (mid-pos r w) (le-of-eq (sym (mid w g)))
 
   above-lt : (w : Float) (g : OnGrid f w) → Smaller f r w → q * 2 ^ k < g .n * 2 ^ g .j
   above-lt w g h = order (num f r) (den r) (num f w) (den w) (2 ^ low f) (q * 2 ^ k) (g .n * 2 ^ g .j) (pow-pos (low f)) value (g .value) h
@@ -266,8 +241,7 @@ module _ (f : Format) (s : Bool) (ρ : Real) (law : Lawful ρ) (r : Float) (q k 
 
   above-by : (w : Float) (g : OnGrid f w) → Smaller f r w → q * 2 ^ k + q * 2 ^ k + 2 ^ k ≤ q * 2 ^ k + g .n * 2 ^ g .j
   above-by w g h =
-      add-up (q * 2 ^ k) (2 ^ k) (g .n * 2 ^ g .j)
-      (next-up (prec f) q k (g .n) (g .j) P lead (g .digits) (above-lt w g h))
+      (omega (arith, next-up (prec f) q k (g .n) (g .j) P lead (g .digits) (above-lt w g h)))
 
   below-lt : (w : Float) (g : OnGrid f w) → Smaller f w r → g .n * 2 ^ g .j < q * 2 ^ k
   below-lt w g h = order (num f w) (den w) (num f r) (den r) (2 ^ low f) (g .n * 2 ^ g .j) (q * 2 ^ k) (pow-pos (low f)) (g .value) value h

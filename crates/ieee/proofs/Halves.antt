@@ -11,13 +11,7 @@ shift m i j = mul-assoc m (2 ^ i) (2 ^ j) ∙ ap (λ (z : ℕ). m * z) (sym (pow
 
 square : (m d e k : ℕ) → k + k + d ≡ e + 970 → m * 2 ^ d * 2 ^ 52 * 2 ^ (k + k) ≡ m * 2 ^ e * 2 ^ 1022
 square m d e k h =
-    ap (λ (z : ℕ). z * 2 ^ (k + k)) (shift m d 52) ∙ shift m (d + 52) (k + k) ∙ ap (λ (z : ℕ). m * 2 ^ z) (total d e k h) ∙ sym (shift m e 1022)
-  where
-    total : (d e k : ℕ) → k + k + d ≡ e + 970 → d + 52 + (k + k) ≡ e + 1022
-    total d e k h = omega arith
-
-fits-shift : (e q : ℕ) → e ≤ 2098 → (e / 2 + 485) * 2 ^ 52 % 2 ^ 64 + q ≡ (e / 2 + 485) * 2 ^ 52 + q
-fits-shift e q h = omega arith
+    ap (λ (z : ℕ). z * 2 ^ (k + k)) (shift m d 52) ∙ shift m (d + 52) (k + k) ∙ ap (λ (z : ℕ). m * 2 ^ z) (omega arith) ∙ sym (shift m e 1022)
 
 -- the exponent e is halved to k, with the digits n = m * 2 ^ d doubled (d = 1) where e is odd
 halved : (m d e n q : ℕ) → n ≡ m * 2 ^ d → 2 ^ 52 ≤ n → e ≤ 2098 → e / 2 + 485 + (e / 2 + 485) + d ≡ e + 970 → NearestRoot n q
@@ -26,7 +20,7 @@ halved m d e n q s l b h r = record {
   q = q;
   k = e / 2 + 485;
   M = n * 2 ^ 52;
-  bits = fits-shift e q b;
+  bits = omega arith;
   least = r .least;
   most = r .most;
   exponent = omega arith;
@@ -43,22 +37,13 @@ pub at-odd : (m e q : ℕ) → 2 ^ 52 ≤ m → e ≤ 2098 → (e % 2 ≡ 0 → 
 at-odd m e q l b p = halved m 1 e (m + m) q (omega arith) (omega arith) b (omega arith)
 
 -- a subnormal's digits
-none : (m b : ℕ) → m * 1 ≡ b * 2 ^ 52 → 0 < b → m < 2 ^ 52 → ⊥
-none m b h p l = omega arith
-
 pub some-left : (m b e : ℕ) → m * 2 ^ e ≡ b * 2 ^ 52 → 0 < b → m < 2 ^ 52 → 1 ≤ e
-some-left m b zero h p l = absurd (none m b h p l)
+some-left m b zero h p l = absurd (omega arith)
 some-left m b (suc e) h p l = omega arith
 
 pub one-up : (m b e : ℕ) → m * 2 ^ e ≡ b * 2 ^ 52 → 1 ≤ e → (m + m) * 2 ^ (e - 1) ≡ b * 2 ^ 52
-one-up m b zero h p = absurd (no p)
+one-up m b zero h p = absurd (omega arith)
+one-up m b (suc e) h p = ap (λ (z : ℕ). (m + m) * 2 ^ z) (omega arith) ∙ twice m (2 ^ e) ∙ ap (λ (z : ℕ). m * z) (sym (pow-succ' 2 e)) ∙ h
   where
-    no : 1 ≤ 0 → ⊥
-    no p = omega arith
-one-up m b (suc e) h p = ap (λ (z : ℕ). (m + m) * 2 ^ z) (less e) ∙ twice m (2 ^ e) ∙ ap (λ (z : ℕ). m * z) (sym (pow-succ' 2 e)) ∙ h
-  where
-    less : (e : ℕ) → suc e - 1 ≡ e
-    less e = omega arith
-
     twice : (m z : ℕ) → (m + m) * z ≡ m * (2 * z)
     twice m z = omega arith

@@ -1,7 +1,7 @@
 -- `sqrtOf` is the square root, for every format and every x (`sqrtOf-correct`).
 use mathlib.Core.Path.{_≡_, refl, sym, subst}
 use mathlib.Core.Bool.{Bool, true, false, not, cond}
-use Prim.Native.Nat.{ℕ, zero, suc, _+_, _-_, _*_, _/_, _^_, _≤_, _<_}
+use Prim.Native.Nat.{ℕ, zero, suc, _+_, _*_, _/_, _^_, _≤_, _<_}
 use native.Mathlib.Nat.{le-trans, le-of-eq, le-of-lt, lt-of-lt-of-le, lt-of-le-of-lt, lt-of-not-le, not-le-of-lt, mul-pos, mul-le-mul, mul-le-mul-right}
 use native.Mathlib.Nat.{le-of-mul-le-mul-right, zero-lt-suc, pow-suc, pow-succ', pow-le-pow-left, div-lt-iff-lt-mul}
 use native.Mathlib.Omega.{arith}
@@ -13,7 +13,7 @@ use lib.Ieee.Digits.{size-lt}
 use lib.Ieee.Fits.{down-pos, eq→eqb}
 use Rattle.ieee.specs.Nearest.{Real, fraction, root, num, den, midNum, midDen, Nearest}
 use Rattle.ieee.specs.Sqrt.{Sqrt, isqrt, withSticky, rootOf, sqrtOf}
-use Rattle.ieee.proofs.Grid.{OnGrid, on-grid, den-pos, Lawful, middle}
+use Rattle.ieee.proofs.Grid.{mid-pos, half-pos, OnGrid, on-grid, Lawful, middle}
 use Rattle.ieee.proofs.Roots.{root-lawful}
 use Rattle.ieee.proofs.Fractions.{fraction-lawful, round-nearest}
 use Rattle.ieee.proofs.Unique.{sq-le-back}
@@ -22,12 +22,6 @@ use Rattle.ieee.proofs.Unique.{sq-le-back}
 abbrev IsRoot : ℕ → ℕ → Type 0
 IsRoot s n = (s * s ≤ n) × (n < (s + 1) * (s + 1))
 
-fourth : (n s : ℕ) → s * s ≤ n / 4 → 2 * s * (2 * s) ≤ n
-fourth n s h = omega arith
-
-fourth-up : (n s : ℕ) → n / 4 < (s + 1) * (s + 1) → n < (2 * s + 1 + 1) * (2 * s + 1 + 1)
-fourth-up n s h = omega arith
-
 isqrt-is : (k n : ℕ) → n < 4 ^ k → IsRoot (isqrt k n) n
 unfolding isqrt
 isqrt-is zero n h = omega arith
@@ -35,8 +29,8 @@ isqrt-is (suc k) n h = go (isqrt k (n / 4)) (isqrt-is k (n / 4) (div-lt-iff-lt-m
   where
     pick : (s : ℕ) → IsRoot s (n / 4) → (t : Bool) → (T t → n < (2 * s + 1) * (2 * s + 1)) → (T (not t) → (2 * s + 1) * (2 * s + 1) ≤ n)
         → IsRoot (cond t (2 * s) (2 * s + 1)) n
-    pick s r true a b = (fourth n s (r .0), a tt)
-    pick s r false a b = (b tt, fourth-up n s (r .1))
+    pick s r true a b = (omega (arith, r .0), a tt)
+    pick s r false a b = (b tt, omega (arith, r .1))
 
     go : (s : ℕ) → IsRoot s (n / 4) → IsRoot (cond (ltb n ((2 * s + 1) * (2 * s + 1))) (2 * s) (2 * s + 1)) n
     go s r = pick s r (ltb n ((2 * s + 1) * (2 * s + 1))) (ltb→lt n ((2 * s + 1) * (2 * s + 1))) (nltb→le n ((2 * s + 1) * (2 * s + 1)))
@@ -59,10 +53,7 @@ unfolding withSticky
 sides s n r = go (eqb (s * s) n) (eqb→eq (s * s) n) (λ (e : s * s ≡ n). eq→eqb e)
   where
     under : (y : ℕ) → y * y ≤ n → y ≤ s
-    under y h = below y s (lt-of-sq y (s + 1) (lt-of-le-of-lt h (r .1)))
-      where
-        below : (y s : ℕ) → y < s + 1 → y ≤ s
-        below y s h = omega arith
+    under y h = omega (arith, lt-of-sq y (s + 1) (lt-of-le-of-lt h (r .1)))
 
     twice : (x y : ℕ) → x ≤ y → 2 * x ≤ 2 * y
     twice x y h = omega arith
@@ -76,12 +67,6 @@ sides s n r = go (eqb (s * s) n) (eqb→eq (s * s) n) (λ (e : s * s ≡ n). eq�
     one-half : (x y : ℕ) → 2 * x + 1 ≤ 2 * y → x + 1 ≤ y
     one-half x y h = omega arith
 
-    over-one : (x y : ℕ) → x < y → 2 * x + 1 ≤ 2 * y
-    over-one x y h = omega arith
-
-    more : (x y : ℕ) → x ≤ y → x ≤ y + 1
-    more x y h = omega arith
-
     go : (t : Bool) → (T t → s * s ≡ n) → (s * s ≡ n → T t) → Sides (cond t (2 * s) (2 * s + 1)) n
     go true a b = record {
       most = λ y h. twice s y (sq-le-back s y (le-trans (r .0) h));
@@ -90,9 +75,9 @@ sides s n r = go (eqb (s * s) n) (eqb→eq (s * s) n) (λ (e : s * s ≡ n). eq�
       least-back = λ y h. le-trans (mul-le-mul (half y s h) (half y s h)) (r .0);
     }
     go false a b = record {
-      most = λ y h. over-one s y (lt-of-sq s y (lt-of-lt-of-le (lt-of-le-ne (r .0) b) h));
+      most = λ y h. omega (arith, lt-of-sq s y (lt-of-lt-of-le (lt-of-le-ne (r .0) b) h));
       most-back = λ y h. le-trans (le-of-lt (r .1)) (mul-le-mul (one-half s y h) (one-half s y h));
-      least = λ y h. more (2 * y) (2 * s) (twice y s (under y h));
+      least = λ y h. omega (arith, twice y s (under y h));
       least-back = λ y h. le-trans (mul-le-mul (half-one y s h) (half-one y s h)) (r .0);
     }
 
@@ -102,12 +87,6 @@ module _ (f : Format) (s : Bool) (ρ σ : Real) (law : Lawful ρ) (law' : Lawful
     (most-back : (a : ℕ) → σ .atMost a (2 * 2 ^ low f) → ρ .atMost a (2 * 2 ^ low f))
     (least : (a : ℕ) → ρ .atLeast a (2 * 2 ^ low f) → σ .atLeast a (2 * 2 ^ low f))
     (least-back : (a : ℕ) → σ .atLeast a (2 * 2 ^ low f) → ρ .atLeast a (2 * 2 ^ low f)) where
-  half-pos : 0 < 2 * 2 ^ low f
-  half-pos = mul-pos (pow-pos 1) (pow-pos (low f))
-
-  mid-pos : (v w : Float) → 0 < midDen v w
-  mid-pos v w = mul-pos (pow-pos 1) (mul-pos (den-pos v) (den-pos w))
-
   abbrev count : (v w : Float) → OnGrid f v → OnGrid f w → ℕ
   count v w g o = g .n * 2 ^ g .j + o .n * 2 ^ o .j
 
@@ -117,14 +96,14 @@ module _ (f : Format) (s : Bool) (ρ σ : Real) (law : Lawful ρ) (law' : Lawful
   go-most : (ρ σ : Real) → Lawful ρ → Lawful σ → ((a : ℕ) → ρ .atMost a (2 * 2 ^ low f) → σ .atMost a (2 * 2 ^ low f)) → (v w : Float) → OnGrid f v → OnGrid f w
       → ρ .atMost (midNum f v w) (midDen v w) → σ .atMost (midNum f v w) (midDen v w)
   go-most ρ σ l l' k v w g o h =
-      l' .higher (count v w g o) (2 * 2 ^ low f) (midNum f v w) (midDen v w) half-pos (mid-pos v w) (le-of-eq (sym (mid v w g o)))
-      (k (count v w g o) (l .higher (midNum f v w) (midDen v w) (count v w g o) (2 * 2 ^ low f) (mid-pos v w) half-pos (le-of-eq (mid v w g o)) h))
+      l' .higher (count v w g o) (2 * 2 ^ low f) (midNum f v w) (midDen v w) (half-pos f) (mid-pos v w) (le-of-eq (sym (mid v w g o)))
+      (k (count v w g o) (l .higher (midNum f v w) (midDen v w) (count v w g o) (2 * 2 ^ low f) (mid-pos v w) (half-pos f) (le-of-eq (mid v w g o)) h))
 
   go-least : (ρ σ : Real) → Lawful ρ → Lawful σ → ((a : ℕ) → ρ .atLeast a (2 * 2 ^ low f) → σ .atLeast a (2 * 2 ^ low f)) → (v w : Float) → OnGrid f v
       → OnGrid f w → ρ .atLeast (midNum f v w) (midDen v w) → σ .atLeast (midNum f v w) (midDen v w)
   go-least ρ σ l l' k v w g o h =
-      l' .lower (midNum f v w) (midDen v w) (count v w g o) (2 * 2 ^ low f) (mid-pos v w) half-pos (le-of-eq (mid v w g o))
-      (k (count v w g o) (l .lower (count v w g o) (2 * 2 ^ low f) (midNum f v w) (midDen v w) half-pos (mid-pos v w) (le-of-eq (sym (mid v w g o))) h))
+      l' .lower (midNum f v w) (midDen v w) (count v w g o) (2 * 2 ^ low f) (mid-pos v w) (half-pos f) (le-of-eq (mid v w g o))
+      (k (count v w g o) (l .lower (count v w g o) (2 * 2 ^ low f) (midNum f v w) (midDen v w) (half-pos f) (mid-pos v w) (le-of-eq (sym (mid v w g o))) h))
 
   pub nearest-same : (r : Float) → Nearest f ρ s r → Nearest f σ s r
   nearest-same r n =

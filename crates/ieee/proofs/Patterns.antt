@@ -27,13 +27,10 @@ ofBits-is : (b : ℕ) → ofBits binary64 b ≡ ofFields binary64 (leb (2 ^ 63) 
 unfolding ofBits
 ofBits-is b = refl
 
-differ : (x : ℕ) → suc x < 2047 → suc x ≡ 2047 → ⊥
-differ x h e = omega arith
-
 under-ones : (t x : ℕ) → suc x < 2047 → ofFields binary64 false (suc x) t ≡ odd 53 false (2 ^ 52 + t) x 1074
 unfolding ofFields
 under-ones t x h = cond-no (eqb (suc x) 2047) (cond (eqb t 0) (inf false) nan) (odd 53 false (2 ^ 52 + t) x 1074)
-    (not-T (eqb (suc x) 2047) (λ (u : T (eqb (suc x) 2047)). differ x h (eqb→eq (suc x) 2047 u)))
+    (not-T (eqb (suc x) 2047) (λ (u : T (eqb (suc x) 2047)). omega (arith, eqb→eq (suc x) 2047 u)))
 
 at-zero : (t : ℕ) → ofFields binary64 false 0 t ≡ odd 53 false t 0 1074
 unfolding ofFields
@@ -49,52 +46,28 @@ plus b k =
     ∙ ap (λ (s : Bool). ofFields binary64 s (b % 2 ^ 63 / 2 ^ 52) (b % 2 ^ 52)) (is-false (leb (2 ^ 63) b) (lt→nleb (2 ^ 63) b (no-sign b k)))
     ∙ ap (λ (x : ℕ). ofFields binary64 false (x / 2 ^ 52) (b % 2 ^ 52)) (mod-eq-of-lt (no-sign b k))
 
-field-of : (b : ℕ) → 2 ^ 52 ≤ b → b / 2 ^ 52 ≡ suc (b / 2 ^ 52 - 1)
-field-of b h = omega arith
-
-field-lt : (b : ℕ) → 2 ^ 52 ≤ b → b < 2047 * 2 ^ 52 → suc (b / 2 ^ 52 - 1) < 2047
-field-lt b h k = omega arith
-
 pub normal : (b : ℕ) → 2 ^ 52 ≤ b → b < 2047 * 2 ^ 52 → ofBits binary64 b ≡ odd 53 false (2 ^ 52 + b % 2 ^ 52) (b / 2 ^ 52 - 1) 1074
 normal b h k =
     plus b k
-    ∙ ap (λ (x : ℕ). ofFields binary64 false x (b % 2 ^ 52)) (field-of b h)
-    ∙ under-ones (b % 2 ^ 52) (b / 2 ^ 52 - 1) (field-lt b h k)
-
-low-field : (b : ℕ) → b < 2 ^ 52 → b / 2 ^ 52 ≡ 0
-low-field b h = omega arith
-
-below-inf : (b : ℕ) → b < 2 ^ 52 → b < 2047 * 2 ^ 52
-below-inf b h = omega arith
+    ∙ ap (λ (x : ℕ). ofFields binary64 false x (b % 2 ^ 52)) (omega arith)
+    ∙ under-ones (b % 2 ^ 52) (b / 2 ^ 52 - 1) (omega arith)
 
 pub subnormal : (b : ℕ) → b < 2 ^ 52 → ofBits binary64 b ≡ odd 53 false b 0 1074
 subnormal b h =
-    plus b (below-inf b h)
-    ∙ ap (λ (x : ℕ). ofFields binary64 false x (b % 2 ^ 52)) (low-field b h)
+    plus b (omega arith)
+    ∙ ap (λ (x : ℕ). ofFields binary64 false x (b % 2 ^ 52)) (omega arith)
     ∙ ap (λ (x : ℕ). ofFields binary64 false 0 x) (mod-eq-of-lt h)
     ∙ at-zero b
 
 -- ---- the pattern that the steps give
-made-lo : (k q : ℕ) → 2 ^ 52 ≤ q → 2 ^ 52 ≤ k * 2 ^ 52 + q
-made-lo k q h = omega arith
-
 pub made-hi : (k q : ℕ) → q < 2 ^ 53 → k < 2000 → k * 2 ^ 52 + q < 2047 * 2 ^ 52
 made-hi k q h l = omega arith
 
-made-digits : (k q : ℕ) → 2 ^ 52 ≤ q → q < 2 ^ 53 → 2 ^ 52 + (k * 2 ^ 52 + q) % 2 ^ 52 ≡ q
-made-digits k q h l = omega arith
-
-made-field : (k q : ℕ) → 2 ^ 52 ≤ q → q < 2 ^ 53 → (k * 2 ^ 52 + q) / 2 ^ 52 - 1 ≡ k
-made-field k q h l = omega arith
-
 pub made : (k q : ℕ) → 2 ^ 52 ≤ q → q < 2 ^ 53 → k < 2000 → ofBits binary64 (k * 2 ^ 52 + q) ≡ odd 53 false q k 1074
 made k q h l x =
-    normal (k * 2 ^ 52 + q) (made-lo k q h) (made-hi k q l x)
-    ∙ ap (λ (z : ℕ). odd 53 false z ((k * 2 ^ 52 + q) / 2 ^ 52 - 1) 1074) (made-digits k q h l)
-    ∙ ap (λ (z : ℕ). odd 53 false q z 1074) (made-field k q h l)
-
-above-zero : (q : ℕ) → 2 ^ 52 ≤ q → 0 < q
-above-zero q h = omega arith
+    normal (k * 2 ^ 52 + q) (omega arith) (made-hi k q l x)
+    ∙ ap (λ (z : ℕ). odd 53 false z ((k * 2 ^ 52 + q) / 2 ^ 52 - 1) 1074) (omega arith)
+    ∙ ap (λ (z : ℕ). odd 53 false q z 1074) (omega arith)
 
 -- p / d is n smallest values, and b is what `root_bits` makes of them
 near : (p d n b : ℕ) → 0 < d → p * 2 ^ 1074 ≡ n * d → Rooted (n * 2 ^ 52) b → Nearest binary64 (root p d) false (ofBits binary64 b)
@@ -105,7 +78,7 @@ near p d n b D x g =
     (sym (ap (ofBits binary64) (g .bits) ∙ made (g .k) (g .q) (g .least) (g .most) (g .exponent))) (odd-sign 53 false (g .q) (g .k) 1074) in
     nearest-of binary64 false (root p d) (root-lawful p d) r (g .q) (g .k) (counted binary64 false r (g .q * 2 ^ g .k) (2 ^ 1074) v) (inr (g .least))
     (root-close p d n 1074 (g .M) (g .q) (g .k) (2 ^ 52) D x (g .square ∙ mul-assoc n (2 ^ 52) (2 ^ 1022)) (g .below) (g .above) (g .start)
-    (above-zero (g .q) (g .least)) 53 _ refl _)
+    (omega (arith, g .least)) 53 _ refl _)
     (ofBits-fits binary64 b) (signed false r (g .q * 2 ^ g .k) (2 ^ 1074) v)
 
 -- ---- `sqrt` at each kind of x
@@ -125,16 +98,7 @@ of-count (fin false (suc m) e) n b v p g = near (suc m * up e) (down e) n b (dow
 
 -- x from its own pattern
 scaled : (m x : ℕ) → 1 ≤ x → m * 2 ^ (x - 1) * 2 ^ 52 ≡ m * 2 ^ (x + 51)
-scaled m x h = mul-assoc m (2 ^ (x - 1)) (2 ^ 52) ∙ ap (λ (z : ℕ). m * z) (sym (pow-add 2 (x - 1) 52) ∙ ap (λ (z : ℕ). 2 ^ z) (up-one x h))
-  where
-    up-one : (x : ℕ) → 1 ≤ x → x - 1 + 52 ≡ x + 51
-    up-one x h = omega arith
-
-field-pos : (b : ℕ) → 2 ^ 52 ≤ b → 1 ≤ b / 2 ^ 52
-field-pos b h = omega arith
-
-digits-pos : (t : ℕ) → 0 < 2 ^ 52 + t
-digits-pos t = omega arith
+scaled m x h = mul-assoc m (2 ^ (x - 1)) (2 ^ 52) ∙ ap (λ (z : ℕ). m * z) (sym (pow-add 2 (x - 1) 52) ∙ ap (λ (z : ℕ). 2 ^ z) (omega arith))
 
 pub finite-root : (x : Float) (b r : ℕ) → ofBits binary64 b ≡ x → 0 < b → b < 2047 * 2 ^ 52
     → (b < 2 ^ 52 → Rooted (b * 2 ^ 52) r)
@@ -153,8 +117,8 @@ finite-root x b r e B I s g = go (ltb b (2 ^ 52)) (ltb→lt b (2 ^ 52)) (nltb→
         let k = b / 2 ^ 52 in
         of-count x (m * 2 ^ (k - 1)) r
         (subst (λ (z : Float). HasValue z false (m * 2 ^ (k - 1)) (2 ^ 1074)) (sym (normal b (h tt) I) ∙ e) (odd-sign 53 false m (k - 1) 1074))
-        (mul-pos (digits-pos (b % 2 ^ 52)) (pow-pos (k - 1)))
-        (subst (λ (n : ℕ). Rooted n r) (sym (scaled m k (field-pos b (h tt)))) (g (h tt)))
+        (mul-pos (omega arith) (pow-pos (k - 1)))
+        (subst (λ (n : ℕ). Rooted n r) (sym (scaled m k (omega (arith, h tt)))) (g (h tt)))
 
 -- the pattern of what is above zero is above zero
 zero-bits : ofBits binary64 0 ≡ fin false 0 (pos 0)
@@ -209,35 +173,23 @@ at-top : (s : Bool) (t : ℕ) → Above (ofFields binary64 s 2047 t) → ⊥
 unfolding ofFields
 at-top s t h = special (eqb t 0) s h
 
-top-field : (b : ℕ) → 2047 * 2 ^ 52 ≤ b → b < 2 ^ 63 → b % 2 ^ 63 / 2 ^ 52 ≡ 2047
-top-field b h l = omega arith
-
 pub beyond : (b : ℕ) → 2047 * 2 ^ 52 ≤ b → Above (ofBits binary64 b) → ⊥
 beyond b h a = go (leb (2 ^ 63) b) (nleb→lt (2 ^ 63) b) (subst Above (ofBits-is b) a)
   where
     go : (s : Bool) → (T (not s) → b < 2 ^ 63) → Above (ofFields binary64 s (b % 2 ^ 63 / 2 ^ 52) (b % 2 ^ 52)) → ⊥
     go true l a = minus (b % 2 ^ 63 / 2 ^ 52) (b % 2 ^ 52) a
-    go false l a = at-top false (b % 2 ^ 52) (subst (λ (x : ℕ). Above (ofFields binary64 false x (b % 2 ^ 52))) (top-field b h (l tt)) a)
+    go false l a = at-top false (b % 2 ^ 52) (subst (λ (x : ℕ). Above (ofFields binary64 false x (b % 2 ^ 52))) (omega (arith, l tt)) a)
 
 -- ---- x that is its own root, and x that has none
-zeros-lt : (u d v e : ℕ) → 0 * u * d < 0 * v * e → ⊥
-zeros-lt u d v e h = omega arith
-
-zeros-pos : (u d v e : ℕ) → 0 < 0 * u * d + 0 * v * e → ⊥
-zeros-pos u d v e h = omega arith
-
-zero-right : (a v e : ℕ) → a < 0 * v * e → ⊥
-zero-right a v e h = omega arith
-
 pub negative : (x r : Float) → T (lt x (fin false 0 (pos 0))) → r ≡ nan → Sqrt binary64 x r
 unfolding lt
 negative nan r h e = e
 negative (inf true) r h e = e
 negative (inf false) r h e = absurd h
-negative (fin true zero d) r h e = absurd (zeros-pos (up d) 1 1 (down d) (ltb→lt 0 (0 * up d * 1 + 0 * 1 * down d) h))
-negative (fin false zero d) r h e = absurd (zeros-lt (up d) 1 1 (down d) (ltb→lt (0 * up d * 1) (0 * 1 * down d) h))
+negative (fin true zero d) r h e = absurd (omega (arith, ltb→lt 0 (0 * up d * 1 + 0 * 1 * down d) h))
+negative (fin false zero d) r h e = absurd (omega (arith, ltb→lt (0 * up d * 1) (0 * 1 * down d) h))
 negative (fin true (suc m) d) r h e = e
-negative (fin false (suc m) d) r h e = absurd (zero-right (suc m * up d * 1) 1 (down d) (ltb→lt (suc m * up d * 1) (0 * 1 * down d) h))
+negative (fin false (suc m) d) r h e = absurd (omega (arith, ltb→lt (suc m * up d * 1) (0 * 1 * down d) h))
 
 pub infinite : (x : Float) (b : ℕ) → ofBits binary64 b ≡ x → T (lt (fin false 0 (pos 0)) x) → 2047 * 2 ^ 52 ≤ b → Sqrt binary64 x x
 unfolding lt
@@ -252,12 +204,6 @@ infinite (fin false (suc m) d) b e h l = absurd (beyond b l (subst Above (sym e)
 some-pos : (m u d : ℕ) → 0 < u → 0 < d → 0 < suc m * u * d
 some-pos m u d U D = mul-pos (mul-pos (zero-lt-suc m) U) D
 
-grown : (a b : ℕ) → 0 < a → 0 < a + b
-grown a b h = omega arith
-
-over-zero : (a v e : ℕ) → 0 < a → 0 * v * e < a
-over-zero a v e h = omega arith
-
 pub neither : (x : Float) → T (not (lt x (fin false 0 (pos 0)))) → T (not (lt (fin false 0 (pos 0)) x)) → Sqrt binary64 x x
 unfolding lt
 neither nan h g = refl
@@ -267,10 +213,10 @@ neither (fin true zero d) h g = refl
 neither (fin false zero d) h g = refl
 neither (fin true (suc m) d) h g =
     absurd (T-not (ltb 0 (suc m * up d * 1 + 0 * 1 * down d)) h
-    (lt→ltb 0 (suc m * up d * 1 + 0 * 1 * down d) (grown (suc m * up d * 1) (0 * 1 * down d) (some-pos m (up d) 1 (up-pos d) (zero-lt-suc 0)))))
+    (lt→ltb 0 (suc m * up d * 1 + 0 * 1 * down d) (omega (arith, some-pos m (up d) 1 (up-pos d) (zero-lt-suc 0)))))
 neither (fin false (suc m) d) h g =
     absurd (T-not (ltb (0 * 1 * down d) (suc m * up d * 1)) g
-    (lt→ltb (0 * 1 * down d) (suc m * up d * 1) (over-zero (suc m * up d * 1) 1 (down d) (some-pos m (up d) 1 (up-pos d) (zero-lt-suc 0)))))
+    (lt→ltb (0 * 1 * down d) (suc m * up d * 1) (omega (arith, some-pos m (up d) 1 (up-pos d) (zero-lt-suc 0)))))
 
 pub above-no-nan : (x : Float) → T (lt (fin false 0 (pos 0)) x) → T (not (isNan x))
 unfolding lt isNan

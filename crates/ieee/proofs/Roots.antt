@@ -48,38 +48,21 @@ module _ (S X u a : ℕ) where
   small-lt h g z = lt-of-le-of-lt (le-trans (mul-le-mul g g) (le-of-eq (mul-mul-mul-comm X u X u))) (mul-lt-mul-of-pos-right h (mul-pos z z))
 
 pub sq-lt : (a b : ℕ) → a < b → a * a < b * b
-sq-lt a b h = lt-of-le-of-lt (mul-le-mul (le-refl a) (le-of-lt h)) (mul-lt-mul-of-pos-right h (pos a b h))
-  where
-    pos : (a b : ℕ) → a < b → 0 < b
-    pos a b h = omega arith
+sq-lt a b h = lt-of-le-of-lt (mul-le-mul (le-refl a) (le-of-lt h)) (mul-lt-mul-of-pos-right h (omega arith))
 
 -- ---- q is the whole number nearest to √M: what that says of the halves on either side
 up-sq : (q M : ℕ) → M ≤ q * q + q → 4 * M < (q + q + 1) * (q + q + 1)
 up-sq q M h = omega arith
 
-down-sq : (h M : ℕ) → suc h * suc h < M + suc h → (h + h + 1) * (h + h + 1) < 4 * M
-down-sq h M k = omega arith
-
-edge-sq : (q M : ℕ) → q * q ≤ M → (q + q) * (q + q) ≤ 4 * M
-edge-sq q M h = omega arith
-
 row-up : (q u a : ℕ) → q * u + q * u + u ≤ a → (q + q + 1) * u ≤ a
 row-up q u a h = omega arith
-
-row-down : (h u a : ℕ) → a + u ≤ suc h * u + suc h * u → a ≤ (h + h + 1) * u
-row-down h u a k = omega arith
-
-row-edge : (q u a : ℕ) → a < q * u + q * u → a < (q + q) * u
-row-edge q u a h = omega arith
-
--- n / 2 ^ l is p / d, and n * 2 ^ l is M * u * u
-key : (p d n L M u : ℕ) → p * L ≡ n * d → M * (u * u) ≡ n * L → p * (2 * L * (2 * L)) ≡ 4 * M * (u * u) * d
-key p d n L M u x y = omega (arith, ap (λ (z : ℕ). z * (4 * L)) x, ap (λ (z : ℕ). z * (4 * d)) y)
 
 module _ (p d n l M q k e : ℕ) (D : 0 < d) (x : p * 2 ^ l ≡ n * d) (y : M * 2 ^ (k + k) ≡ n * 2 ^ l) (lo : q * q < M + q) (hi : M ≤ q * q + q) (low : e * e ≤ M)
     (Q : 0 < q) where
   eq : p * (2 * 2 ^ l * (2 * 2 ^ l)) ≡ 4 * M * (2 ^ k * 2 ^ k) * d
-  eq = key p d n (2 ^ l) M (2 ^ k) x (ap (λ (z : ℕ). M * z) (sym (pow-add 2 k k)) ∙ y)
+  eq =
+      let t = ap (λ (z : ℕ). M * z) (sym (pow-add 2 k k)) ∙ y in
+      omega (arith, ap (λ (z : ℕ). z * (4 * 2 ^ l)) x, ap (λ (z : ℕ). z * (4 * d)) t)
 
   most : (a : ℕ) → 4 * M * (2 ^ k * 2 ^ k) ≤ a * a → root p d .atMost a (2 * 2 ^ l)
   most a h = le-trans (le-of-eq eq) (mul-le-mul-right d h)
@@ -109,10 +92,10 @@ module _ (p d n l M q k e : ℕ) (D : 0 < d) (x : p * 2 ^ l ≡ n * d) (y : M * 
         where
           go : (q : ℕ) → q * q < M + q → 0 < q → a + 2 ^ k ≤ q * 2 ^ k + q * 2 ^ k → a * a < 4 * M * (2 ^ k * 2 ^ k)
           go zero lo Q h = absurd (lt-irrefl 0 Q)
-          go (suc j) lo Q h = small-lt (4 * M) (j + j + 1) (2 ^ k) a (down-sq j M lo) (row-down j (2 ^ k) a h) (pow-pos k)
+          go (suc j) lo Q h = small-lt (4 * M) (j + j + 1) (2 ^ k) a (omega arith) (omega arith) (pow-pos k)
 
       edged : q ≡ 2 ^ (prec - 1) → (a : ℕ) → a < q * 2 ^ k + q * 2 ^ k → a * a < 4 * M * (2 ^ k * 2 ^ k)
       edged z a h =
           let s : q * q ≤ M = subst (λ (w : ℕ). w * w ≤ M) (E ∙ sym z) low in
-          lt-of-lt-of-le (sq-lt a ((q + q) * 2 ^ k) (row-edge q (2 ^ k) a h))
-          (le-trans (le-of-eq (mul-mul-mul-comm (q + q) (2 ^ k) (q + q) (2 ^ k))) (mul-le-mul-right (2 ^ k * 2 ^ k) (edge-sq q M s)))
+          lt-of-lt-of-le (sq-lt a ((q + q) * 2 ^ k) (omega arith))
+          (le-trans (le-of-eq (mul-mul-mul-comm (q + q) (2 ^ k) (q + q) (2 ^ k))) (mul-le-mul-right (2 ^ k * 2 ^ k) (omega arith)))

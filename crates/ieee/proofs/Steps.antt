@@ -10,46 +10,28 @@ use native.Mathlib.Omega.{arith}
 abbrev pub Power : ℕ → Type 0
 Power w = (k : ℕ) × (w ≡ 2 ^ k)
 
-half-of : (w p : ℕ) → w ≡ 2 * p → w / 2 ≡ p
-half-of w p e = omega arith
-
-twice-of : (w p : ℕ) → w ≡ 2 * p → w ≡ 2 * (w / 2)
-twice-of w p e = omega arith
-
-not-one : (w : ℕ) → w ≡ 1 → 1 < w → ⊥
-not-one w e h = omega arith
-
 pub halved : (w k : ℕ) → w ≡ 2 ^ k → 1 < w → Power (w / 2) × (w ≡ 2 * (w / 2))
-halved w zero e h = absurd (not-one w e h)
+halved w zero e h = absurd (omega arith)
 halved w (suc k) e h =
     let t : w ≡ 2 * 2 ^ k = e ∙ pow-succ' 2 k in
-    ((k, half-of w (2 ^ k) t), twice-of w (2 ^ k) t)
-
-take-sum : (M q y d h : ℕ) → y * (2 * h) + q * q ≡ M → y + y ≡ d + (q + q + h) → d * h + (q + h) * (q + h) ≡ M
-take-sum M q y d h s e = omega (arith, ap (λ (z : ℕ). z * h) e)
+    ((k, omega arith), omega arith)
 
 rest : (a b : ℕ) → b ≤ a → a ≡ a - b + b
 rest a b h = omega arith
 
 -- a digit 1, and a digit 0
 pub taken : (M q y w h : ℕ) → w ≡ 2 * h → y * w + q * q ≡ M → q + q + h ≤ y + y → (y + y - (q + q + h)) * h + (q + h) * (q + h) ≡ M
-taken M q y w h t s l = take-sum M q y (y + y - (q + q + h)) h (subst (λ (z : ℕ). y * z + q * q ≡ M) t s) (rest (y + y) (q + q + h) l)
+taken M q y w h t s l = let r = rest (y + y) (q + q + h) l in
+    omega (arith, ap (λ (z : ℕ). z * h) r, subst (λ (z : ℕ). y * z + q * q ≡ M) t s)
 
 pub passed : (M q y w h : ℕ) → w ≡ 2 * h → y * w + q * q ≡ M → (y + y) * h + q * q ≡ M
 passed M q y w h t s =
     let u : y * (2 * h) + q * q ≡ M = subst (λ (z : ℕ). y * z + q * q ≡ M) t s in
     omega arith
 
--- at the end the unit is 1
-is-one : (w k : ℕ) → w ≡ 2 ^ k → w ≤ 1 → w ≡ 1
-is-one w k e h = at-least w (2 ^ k) e h (pow-pos k)
-  where
-    at-least : (w p : ℕ) → w ≡ p → w ≤ 1 → 0 < p → w ≡ 1
-    at-least w p e h q = omega arith
-
 pub ended : (M q y w k : ℕ) → w ≡ 2 ^ k → w ≤ 1 → y * w + q * q ≡ M → y < q + q + w → (y + q * q ≡ M) × (y ≤ q + q) × (w ≡ 1)
 ended M q y w k e l s b =
-    let o : w ≡ 1 = is-one w k e l in
+    let o : w ≡ 1 = omega (arith, pow-pos k) in
     let s' : y * 1 + q * q ≡ M = subst (λ (z : ℕ). y * z + q * q ≡ M) o s in
     (omega arith, omega arith, o)
 

@@ -20,7 +20,7 @@ use Rattle.ieee.specs.Nearest.{Real, fraction, root, num, den, HasSign, 
 use Rattle.ieee.specs.Sqrt.{Sqrt}
 use Rattle.ieee.proofs.Fractions.{round-nearest}
 use Rattle.ieee.proofs.Roots.{sq-lt}
-use Rattle.ieee.proofs.Grid.{on-grid, fits-below, den-pos, overflow, Leading, next-up, or-lt, order, middle, signed, counted}
+use Rattle.ieee.proofs.Grid.{mid-pos, on-grid, fits-below, den-pos, overflow, Leading, next-up, or-lt, order, middle, signed, counted}
 
 -- ---- what else any real number satisfies: no fraction above it is below one under it
 abbrev pub Cut : Real → Type 0
@@ -45,48 +45,38 @@ root-cut p q Q a b c d B D l m =
     (le-trans (through (c * c) p (a * a) (d * d) q (b * b) Q l m) (le-of-eq (mul-mul-mul-comm a a d d))))
 
 -- ---- a significand that is even, and the next number up
-odd-even : (c h k e g : ℕ) → c ≡ 2 * h → suc c ≡ 2 * g * e → ⊥
-odd-even c h k e g x y = omega (arith, mul-assoc 2 g e)
-
-too-large : (P c c' e U : ℕ) → 0 < e → P ≤ c → suc c * (2 * e) ≡ c' → c' < 2 * P → ⊥
-too-large P c c' e U E h x l = omega (arith, mul-le-mul-left (suc c) E)
-
 module _ (p c k c' k' h h' : ℕ) (P : 2 ≤ p) (C : c < 2 ^ p) (C' : c' < 2 ^ p) (lead : Leading p c k) (e : c ≡ 2 * h) (e' : c' ≡ 2 * h') where
   pub not-next : suc c * 2 ^ k ≡ c' * 2 ^ k' → ⊥
   not-next x = elim (or-lt k' k) [
     | inl le ↦
-        odd-even c h k (2 ^ (k' - k)) h' e
-        (eq-of-mul-eq-mul-right (2 ^ k) (pow-pos k) (suc c) (2 * h' * 2 ^ (k' - k))
-        (x ∙ ap (λ (z : ℕ). z * 2 ^ k') e' ∙ ap (λ (z : ℕ). 2 * h' * z) (ap (λ (z : ℕ). 2 ^ z) (sym (back k' k le)) ∙ pow-add 2 (k' - k) k)
-        ∙ sym (mul-assoc (2 * h') (2 ^ (k' - k)) (2 ^ k))))
+        (omega (
+          arith,
+          mul-assoc 2 h' (2 ^ (k' - k)),
+          eq-of-mul-eq-mul-right (2 ^ k) (pow-pos k) (suc c) (2 * h' * 2 ^ (k' - k))
+              (x ∙ ap (λ (z : ℕ). z * 2 ^ k') e' ∙ ap (λ (z : ℕ). 2 * h' * z) (ap (λ (z : ℕ). 2 ^ z) (sym (back k' k le)) ∙ pow-add 2 (k' - k) k)
+              ∙ sym (mul-assoc (2 * h') (2 ^ (k' - k)) (2 ^ k))),
+        ))
     | inr lt ↦
         elim lead [
-          | inl z ↦ absurd (none k' k z lt)
+          | inl z ↦ absurd (omega arith)
           | inr b ↦
-              too-large (2 ^ (p - 1)) c c' (2 ^ (k - suc k')) 0 (pow-pos (k - suc k')) b
-              (eq-of-mul-eq-mul-right (2 ^ k') (pow-pos k') (suc c * (2 * 2 ^ (k - suc k'))) c'
-              (mul-assoc (suc c) (2 * 2 ^ (k - suc k')) (2 ^ k')
-              ∙ ap (λ (z : ℕ). suc c * z) (ap (λ (z : ℕ). z * 2 ^ k') (sym (pow-succ' 2 (k - suc k'))) ∙ sym (pow-add 2 (suc (k - suc k')) k')
-              ∙ ap (λ (z : ℕ). 2 ^ z) (joined k k' lt)) ∙ x))
-              (lt-of-lt-of-le C' (le-of-eq (ap (λ (z : ℕ). 2 ^ z) (sym (before p P)) ∙ pow-succ' 2 (p - 1))))
+              (omega (
+                arith,
+                mul-le-mul-left (suc c) (pow-pos (k - suc k')),
+                pow-pos (k - suc k'),
+                eq-of-mul-eq-mul-right (2 ^ k') (pow-pos k') (suc c * (2 * 2 ^ (k - suc k'))) c'
+                    (mul-assoc (suc c) (2 * 2 ^ (k - suc k')) (2 ^ k')
+                    ∙ ap (λ (z : ℕ). suc c * z) (ap (λ (z : ℕ). z * 2 ^ k') (sym (pow-succ' 2 (k - suc k'))) ∙ sym (pow-add 2 (suc (k - suc k')) k')
+                    ∙ ap (λ (z : ℕ). 2 ^ z) (omega arith)) ∙ x),
+                lt-of-lt-of-le C' (le-of-eq (ap (λ (z : ℕ). 2 ^ z) (sym (omega arith)) ∙ pow-succ' 2 (p - 1))),
+              ))
         ]
   ]
-    where
-      none : (j k : ℕ) → k ≡ 0 → j < k → ⊥
-      none j k z l = omega arith
-
-      joined : (k j : ℕ) → j < k → suc (k - suc j) + j ≡ k
-      joined k j l = omega arith
-
-      before : (p : ℕ) → 2 ≤ p → suc (p - 1) ≡ p
-      before p h = omega arith
 
 -- ---- fractions, in smallest values
 pub back-order : (a d b c L R W : ℕ) → 0 < d → 0 < c → a * L ≡ R * d → b * L ≡ W * c → R < W → a * c < b * d
-back-order a d b c L R W D C x y h = lt-of-mul-lt-mul-right L (go (mul-lt-mul-of-pos-right h (mul-pos D C)))
-  where
-    go : R * (d * c) < W * (d * c) → a * c * L < b * d * L
-    go g = omega (arith, ap (λ (z : ℕ). z * c) x, ap (λ (z : ℕ). z * d) y)
+back-order a d b c L R W D C x y h =
+    lt-of-mul-lt-mul-right L (omega (arith, ap (λ (z : ℕ). z * c) x, ap (λ (z : ℕ). z * d) y, mul-lt-mul-of-pos-right h (mul-pos D C)))
 
 module _ (f : Format) (s : Bool) (ρ : Real) (cut : Cut ρ) (r r' : Float) (n : Nearest f ρ s r) (n' : Nearest f ρ s r') where
   swap-num : midNum f r' r ≡ midNum f r r'
@@ -94,9 +84,6 @@ module _ (f : Format) (s : Bool) (ρ : Real) (cut : Cut ρ) (r r' : Float) (n : 
 
   swap-den : midDen r' r ≡ midDen r r'
   swap-den = ap (λ (z : ℕ). 2 * z) (mul-comm (den r') (den r))
-
-  mid-pos : (v w : Float) → 0 < midDen v w
-  mid-pos v w = mul-pos (pow-pos 1) (mul-pos (den-pos v) (den-pos w))
 
   pub no-two : Smaller f r r' → ⊥
   no-two lt =
@@ -126,24 +113,18 @@ module _ (f : Format) (s : Bool) (ρ : Real) (cut : Cut ρ) (r r' : Float) (n : 
             let held : T (fits f w) = odd-fits f (suc (prec f)) s (suc (e .c)) (e .k) (lt-of-le-of-lt (e .digits) (pow-lt (le-refl (suc (prec f))))) (e .digits)
             (lt-of-lt-of-le gap reach) in
             let above : Smaller f r w = back-order (num f r) (den r) (num f w) (den w) L R W (den-pos r) (den-pos w) (e .value) wv
-            (grown (e .c) (2 ^ e .k) (pow-pos (e .k))) in
+            (omega (arith, pow-pos (e .k))) in
             let near = n .fromAbove w held (signed s w W L v) above in
             let c = cut (midNum f r w) (midDen r w) (midNum f r r') (midDen r r') (mid-pos r w) (mid-pos r r') least near in
             not-le-of-lt
             (back-order (midNum f r w) (midDen r w) (midNum f r r') (midDen r r') (2 * L) (R + W) (R + R') (mid-pos r w) (mid-pos r r')
             (middle (num f r) (den r) (num f w) (den w) L R W (e .value) wv) (middle (num f r) (den r) (num f r') (den r') L R R' (e .value) (e' .value))
-            (more R W R' gap))
+            (omega arith))
             c
       ]
     where
       row : (c U : ℕ) → suc c * U ≡ c * U + U
       row c U = omega arith
-
-      grown : (c U : ℕ) → 0 < U → c * U < suc c * U
-      grown c U h = omega arith
-
-      more : (R W X : ℕ) → W < X → R + W < R + X
-      more R W X h = omega arith
 
 -- ---- two values of one size and sign are one value
 toBits-is : (f : Format) (s : Bool) (m : ℕ) (e : ℤ) (n : ℕ) → m * up e * 2 ^ low f ≡ n * down e

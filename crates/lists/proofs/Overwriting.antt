@@ -56,8 +56,8 @@ module _ {A : Type 0} (g : A → A) {l₀ : List A} where
   pub map-turn : {l : List A} {n : ℕ} (i : ℕ) {v : A} (d : A) → i < n → v ≡ g (getD l i d) → Overwriting l₀ 0 (map g (take n l₀)) n l i
       → Overwriting l₀ 0 (map g (take n l₀)) n (set l i v) (i + 1)
   map-turn {l} {n} i d h e p =
-      overwrite-turn i i (g d) (omega arith) h (e ∙ ap g (overwrite-ahead i i d (omega arith) h p ∙ sym (getD-take n l₀ i d h))
-      ∙ sym (List·getD-map g (take n l₀) i d)) p
+      let t = overwrite-ahead i i d (omega arith) h p ∙ sym (getD-take n l₀ i d h) in
+      overwrite-turn i i (g d) (omega arith) h (e ∙ ap g t ∙ sym (List·getD-map g (take n l₀) i d)) p
 
 -- ---- as many stores as places, one after the other
 pub set-all : {A : Type 0} (vs l : List A) → length l ≡ length vs → sets l 0 vs ≡ vs

@@ -104,8 +104,7 @@ cap-turn n ds value i {v} h e r =
 
 pub cap-done : (n : ℕ) (ds : List ℕ) (value i : ℕ) → length ds ≤ i → Capping n ds value i → value ≡ min (valueAfter 10 n ds) limit
 unfolding valueAfter
-cap-done n ds value i h r = let e : min value limit ≡ min (valueAfter 10 n ds) limit = fold-done (λ xs. min (valueAfter 10 value xs) limit) ds i h (r .1) in
-    omega (arith, r .0, e)
+cap-done n ds value i h r = omega (arith, r .0, fold-done (λ xs. min (valueAfter 10 value xs) limit) ds i h (r .1))
 
 -- ---- runs of digits
 pub digits-run : (token : List ℕ) (from : ℕ) → runEnd (inClass Digit) token from ≡ from + leading isDigit (drop from token)

@@ -1,13 +1,14 @@
 -- The table of the powers of ten: its rule is one test over the whole table.
 use Prim.Native.Nat.{ℕ, _^_, _<_}
 use mathlib.Core.Path.{_≡_, sym, ap₂, _∙_}
-use mathlib.Core.Bool.{Bool, true, false}
+use mathlib.Core.Bool.{Bool, true, false, _&&_}
 use mathlib.Core.List.{List, [], _∷_}
 use lib.Dec.{T, eqb, eqb→eq}
 use lib.IntN.{pos, negsuc}
 use lib.ListN.{getD}
 use lib.Ieee.{Float, nan, inf, fin, binary64, ofInt, ofBits}
-use Rattle.scalar.proofs.Table.{both, both-left, both-right, at}
+use lib.Ieee.Fits.{and-l, and-r}
+use Rattle.scalar.proofs.Table.{at}
 
 -- the code's table
 unfoldable pub table : List ℕ
@@ -23,7 +24,7 @@ isPower nan k = false
 isPower (inf s) k = false
 isPower (fin true m e) k = false
 isPower (fin false m (negsuc e)) k = false
-isPower (fin false m (pos e)) k = both (eqb m (5 ^ k)) (eqb e k)
+isPower (fin false m (pos e)) k = eqb m (5 ^ k) && eqb e k
 
 is-power : (x : Float) (k : ℕ) → T (isPower x k) → x ≡ fin false (5 ^ k) (pos k)
 unfolding isPower
@@ -32,11 +33,11 @@ is-power (inf s) k t = absurd t
 is-power (fin true m e) k t = absurd t
 is-power (fin false m (negsuc e)) k t = absurd t
 is-power (fin false m (pos e)) k t =
-    ap₂ (λ (a b : ℕ). fin false a (pos b)) (eqb→eq m (5 ^ k) (both-left (eqb m (5 ^ k)) (eqb e k) t)) (eqb→eq e k (both-right (eqb m (5 ^ k)) (eqb e k) t))
+    ap₂ (λ (a b : ℕ). fin false a (pos b)) (eqb→eq m (5 ^ k) (and-l (eqb m (5 ^ k)) (eqb e k) t)) (eqb→eq e k (and-r (eqb m (5 ^ k)) (eqb e k) t))
 
 -- the rule: an entry's bits are 10^k, and so is the whole number 10^k as a float
 right : ℕ → ℕ → Bool
-right k b = both (isPower (ofBits binary64 b) k) (isPower (ofInt binary64 (pos (10 ^ k))) k)
+right k b = isPower (ofBits binary64 b) k && isPower (ofInt binary64 (pos (10 ^ k))) k
 
 pub rule : (k : ℕ) → k < 23 → ofBits binary64 (getD table k 0) ≡ ofInt binary64 (pos (10 ^ k))
 unfolding table right isPower ofBits ofInt
@@ -44,7 +45,7 @@ rule k h =
     let t = at right table tt k h in
     let a = isPower (ofBits binary64 (getD table k 0)) k in
     let b = isPower (ofInt binary64 (pos (10 ^ k))) k in
-    is-power _ k (both-left a b t) ∙ sym (is-power _ k (both-right a b t))
+    is-power _ k (and-l a b t) ∙ sym (is-power _ k (and-r a b t))
 
 -- 10^k as a float, up to 10^22
 pub power-is : (k : ℕ) → k < 23 → ofInt binary64 (pos (10 ^ k)) ≡ fin false (5 ^ k) (pos k)
@@ -53,4 +54,4 @@ power-is k h =
     let t = at right table tt k h in
     let a = isPower (ofBits binary64 (getD table k 0)) k in
     let b = isPower (ofInt binary64 (pos (10 ^ k))) k in
-    is-power _ k (both-right a b t)
+    is-power _ k (and-r a b t)

@@ -1,5 +1,5 @@
 -- `design_fir::sum_of` meets its contract.
-use Prim.Native.Nat.{_≤_, _-_}
+use Prim.Native.Nat.{_≤_, _<_, _-_}
 use mathlib.Core.Path.{_≡_, refl}
 use native.Mathlib.Omega.{arith}
 use lib.ListN.{take, drop}
@@ -23,11 +23,9 @@ loop-holds c = (search needs, refl)
 
 loop-again : tie.Need-loop-again Inv-loop μ-loop
 unfolding totalFrom
-loop-again c = let l = c .before in (
-  omega arith,
-  front-turn (totalFrom (l .loop .sum)) _ (l .loop .i) (l .before .args .n) (totalFrom _) nan (omega arith) (omega arith) (λ rest. refl)
-      (l .loop .inv .1),
-)
+loop-again c = let l = c .before in
+    let h : l .loop .i < l .before .args .n = omega arith in
+    (omega arith, front-turn (totalFrom (l .loop .sum)) _ (l .loop .i) _ (totalFrom _) nan h (omega arith) (λ rest. refl) (l .loop .inv .1))
 
 returns : tie.Need-returns Inv-loop μ-loop
 unfolding totalFrom

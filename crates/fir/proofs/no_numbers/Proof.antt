@@ -4,9 +4,6 @@ use lib.Ieee.{ofBits}
 use Rattle.fir.proofs.no_numbers.Statement.{statement}
 use Rattle.fir.proofs.no_numbers.Tie as tie
 
-returns : tie.Need-returns
-unfolding ofBits
-returns c = refl
-
 pub no-numbers-spec : {M : Type 1} → statement M
-no-numbers-spec = tie.close (tie.spec returns)
+unfolding ofBits
+no-numbers-spec = tie.close (tie.spec (λ c. refl))

@@ -17,9 +17,6 @@ abbrev μ-loop : tie.MeasureT-loop
 loop-holds : tie.Need-loop-holds Inv-loop μ-loop
 loop-holds c = count-start _ _ _ _ (c .before .pre .0)
 
-age-after-requires : tie.Need-age-after-requires Inv-loop μ-loop
-age-after-requires c κs = c .before .before .loop .inv .young
-
 loop-again : tie.Need-loop-again Inv-loop μ-loop
 loop-again c = let a = c .before .before .before .before in
     count-turn (a .loop .clouded) (a .loop .age) (a .loop .i) (c .before .before .before .loop-test .taken) (c .before .age-after .ensures)
@@ -31,6 +28,6 @@ returns c = count-done _ _ _ (c .loop-test .left) (c .before .loop .inv)
 pub count-clouded-spec : {M : Type 1} → statement M
 count-clouded-spec =
     tie.close
-    (tie.spec Inv-loop μ-loop loop-holds (λ c. search needs) (λ c. search needs) age-after-requires
+    (tie.spec Inv-loop μ-loop loop-holds (λ c. search needs) (λ c. search needs) (λ c κs. c .before .before .loop .inv .young)
     (λ c. search needs) (λ c. search needs) (λ c. search needs) loop-again
     returns)

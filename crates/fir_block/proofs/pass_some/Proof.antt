@@ -69,9 +69,6 @@ same-length : tie.Need-same-length Inv-loop μ-loop
 same-length c = let start : tie.Start Inv-loop μ-loop = search in
     fits-lengths maxTaps _ (c .before .loop .inv .0) .1 ∙ sym (fits-lengths maxTaps _ (start .pre .0) .1)
 
-same-length-2 : tie.Need-same-length-2 Inv-loop μ-loop
-same-length-2 c = c .before .loop .inv .1 .same
-
 returns : tie.Need-returns Inv-loop μ-loop
 returns c = let s : tie.Start Inv-loop μ-loop = search in
     let l = length-take-le (s .args .k) (s .args .input .now) (s .pre .2) in
@@ -84,4 +81,4 @@ pass-some-spec =
     (tie.spec Inv-loop μ-loop loop-holds (λ c. search needs) shared-slice-read-update
     (λ c κs. search needs) (λ c κs. search needs) (λ c. search needs) slice-write-output
     (λ c κs. search needs) add-clouded (λ c. search needs) (λ c. search needs) loop-again
-    same-length same-length-2 returns)
+    same-length (λ c. c .before .loop .inv .1 .same) returns)

@@ -11,9 +11,6 @@ returns : tie.Need-returns
 returns c = let p = c .before .before .before .before .pre in
     finite-clear binary64 _ _ _ _ (p .0) (p .1) (p .2) (sym (c .before .is-finite .ensures) ∙ c .if1 .taken)
 
-returns-2 : tie.Need-returns-2
-unfolding clouding
-returns-2 c = c .not-all-finite .ensures
-
 pub clouds-spec : {M : Type 1} → statement M
-clouds-spec = tie.close (tie.spec (λ c κs. search needs) returns (λ c κs. search needs) returns-2)
+unfolding clouding
+clouds-spec = tie.close (tie.spec (λ c κs. search needs) returns (λ c κs. search needs) (λ c. c .not-all-finite .ensures))

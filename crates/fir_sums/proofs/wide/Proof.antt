@@ -34,9 +34,6 @@ loop-again c = let after-sixteen : tie.After-sixteen Inv-loop μ-loop = search i
     out-turn binary64 _ _ _ _ _ _ _ 16 (omega arith) (a .before .before .before .before .pre .3) (after-sixteen .sixteen .ensures)
     (c .before .before .put .ensures) (a .loop .inv)
 
-same-length : tie.Need-same-length Inv-loop μ-loop
-same-length c = c .before .loop .inv .same
-
 returns : tie.Need-returns Inv-loop μ-loop
 returns c = (c .before .loop .inv .within, c .before .loop .inv .places)
 
@@ -45,4 +42,4 @@ wide-spec =
     tie.close
     (tie.spec Inv-loop μ-loop loop-holds (λ c. omega arith) (λ c. search needs) sixteen-requires
     (λ c. search needs) slice-aggregate-put put-requires (λ c. search needs) (λ c. search needs) loop-again
-    same-length returns)
+    (λ c. c .before .loop .inv .same) returns)

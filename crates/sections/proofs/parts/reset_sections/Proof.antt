@@ -24,8 +24,8 @@ loop-holds c = map-start clearedSection 4 (simp length-map (omega (arith, c .goo
 
 loop-again : tie.Need-loop-again Inv-loop μ-loop
 loop-again c = let l = c .before .before .before .loop in
-    rw map-set (map-turn clearedSection (l .i) _ (omega arith) (c .reset .ensures ∙ ap clearedSection (sym (List·getD-map sectionView (l .kept) (l .i) _)))
-    (l .inv))
+    rw map-set (map-turn clearedSection (l .i) _ (omega arith)
+    (c .reset .ensures ∙ ap clearedSection (sym (List·getD-map sectionView (l .kept) (l .i) _))) (l .inv))
 
 returns : tie.Need-returns Inv-loop μ-loop
 returns c = let at = c .before in
