@@ -1,5 +1,5 @@
-use Rattle.fir_theory.proofs.Sums.{taps-turn, taps-done, sums-length}
 -- `fir_sums::sixteen` meets its contract.
+use Rattle.fir_theory.proofs.Sums.{taps-turn, taps-done, sums-length}
 use Prim.Native.Nat.{_-_, _≤_}
 use mathlib.Core.Path.{_≡_, refl, sym}
 use native.Mathlib.Omega.{arith}

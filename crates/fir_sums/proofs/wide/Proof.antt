@@ -1,5 +1,5 @@
-use borrow.Author.Needs.{needs}
 -- `fir_sums::wide` meets its contract.
+use borrow.Author.Needs.{needs}
 use Prim.Native.Nat.{_-_}
 use native.Mathlib.Omega.{arith}
 use mathlib.Core.Path.{sym}

@@ -1,6 +1,6 @@
+-- `text_decimals::decimal_after` meets its contract.
 use Rattle.text_decimals.proofs.Digits.{result-small}
 use mathlib.Core.Logic.{⊎-elim}
--- `text_decimals::decimal_after` meets its contract.
 use Prim.Native.Nat.{_-_}
 use mathlib.Core.Path.{refl}
 use lib.ListN.{length}

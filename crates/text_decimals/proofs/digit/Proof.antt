@@ -1,5 +1,5 @@
-use native.Mathlib.Omega.{arith}
 -- `text_decimals::digit` meets its contract.
+use native.Mathlib.Omega.{arith}
 use mathlib.Core.Path.{sym, _∙_}
 use Rattle.text_decimals.specs.Decimals.{digit}
 use Rattle.text_decimals.proofs.Digits.{at-least}
