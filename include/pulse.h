@@ -31,9 +31,9 @@
  *     pulse_cascade_reset                    8
  *     pulse_design_fir_lp                 2248
  *     pulse_fir_from_coeffs               1624
- *     pulse_fir_step                        16
- *     pulse_fir_block                     2360
- *     pulse_fir_block_in_place            4520
+ *     pulse_fir_step                        32
+ *     pulse_fir_block                     2376
+ *     pulse_fir_block_in_place            4536
  *     pulse_fir_reset                       24
  *
  * These are bounds, which `tools/stack` reads off the archive's machine code; no function calls itself. They leave out what

@@ -1,5 +1,6 @@
 -- `design_cascade::butterworth::design_butterworth_bp` meets its contract.
-use mathlib.Core.Path.{_∙_, sym, ap}
+use mathlib.Core.Path.{_∙_, sym, ap, ap₂}
+use Rattle.design_cascade.specs.BandPass.{bpCascade}
 use Rattle.design_cascade.specs.Design.{accepted}
 use Rattle.design_cascade.specs.BandPass.{butterworthBp}
 use Rattle.design_checks.proofs.Laws.{good-band}
@@ -17,7 +18,8 @@ bp-cascade-requires c κs = let e = c .before .before in good-band _ _ _ _ (sym 
 
 returns-2 : tie.Need-returns-2
 unfolding butterworthBp
-returns-2 c = let e : tie.Else1 = search in is-accepted (e .before .validate-band .ensures) _ (e .if1 .left) (ap accepted (c .bp-cascade .ensures)) (cc)
+returns-2 c = let e : tie.Else1 = search in is-accepted (e .before .validate-band .ensures) _ (e .if1 .left) (ap accepted (c .bp-cascade .ensures))
+    (ap₂ (bpCascade _) (c .before .before .warp .ensures) (c .before .warp2 .ensures))
 
 pub design-butterworth-bp-spec : {M : Type 1} → statement M
 design-butterworth-bp-spec =

@@ -1,5 +1,7 @@
 -- `design_cascade::butterworth::design_butterworth_hp` meets its contract.
-use mathlib.Core.Path.{_∙_, sym}
+use mathlib.Core.Path.{_∙_, sym, ap}
+use Rattle.design_cascade.specs.Prototype.{prototypeCascade}
+use Rattle.design_cascade.specs.declared.prototype.Prototype.the-variants.{ButterworthHigh}
 use Rattle.design_cascade.specs.LowPass.{butterworthHp}
 use Rattle.design_checks.proofs.Laws.{good-params}
 use Rattle.design_cascade.proofs.Laws.{is-refused, is-accepted}
@@ -16,7 +18,10 @@ design-from-prototype-requires c κs = good-params _ _ _ (sym (c .before .before
 
 returns-2 : tie.Need-returns-2
 unfolding butterworthHp
-returns-2 c = let e = c .before .before in is-accepted (e .before .validate-params .ensures) _ (e .if1 .left) (c .design-from-prototype .ensures) (cc)
+returns-2 c = let e = c .before .before in
+    let s = e .before .before in
+    is-accepted (e .before .validate-params .ensures) _ (e .if1 .left) (c .design-from-prototype .ensures)
+    (ap (λ k. prototypeCascade (ButterworthHigh k) (s .args .order)) (c .before .warp .ensures))
 
 pub design-butterworth-hp-spec : {M : Type 1} → statement M
 design-butterworth-hp-spec =

@@ -1,7 +1,9 @@
 -- `design_cascade::chebyshev::design_chebyshev2_lp` meets its contract.
-use mathlib.Core.Path.{_∙_, sym}
+use mathlib.Core.Path.{_∙_, sym, ap}
 use Prim.Native.Nat.{_<_, _≤_}
 use Rattle.limits.specs.Limits.{maxOrder}
+use Rattle.design_cascade.specs.Prototype.{prototypeCascade}
+use Rattle.design_cascade.specs.Chebyshev.{cheb2Prototype}
 use Rattle.design_cascade.specs.LowPass.{chebyshev2Lp}
 use Rattle.design_checks.proofs.Laws.{good-chebyshev}
 use Rattle.design_cascade.proofs.Laws.{is-refused, is-accepted}
@@ -18,7 +20,10 @@ passed e = good-chebyshev _ _ _ _ (sym (e .before .validate-chebyshev .ensures) 
 
 returns-2 : tie.Need-returns-2
 unfolding chebyshev2Lp
-returns-2 c = let e : tie.Else1 = search in is-accepted (e .before .validate-chebyshev .ensures) _ (e .if1 .left) (c .design-from-prototype .ensures) (cc)
+returns-2 c = let e : tie.Else1 = search in
+    let s = e .before .before in
+    is-accepted (e .before .validate-chebyshev .ensures) _ (e .if1 .left) (c .design-from-prototype .ensures)
+    (ap (λ p. prototypeCascade p (s .args .order)) (c .before .chebyshev2-prototype .ensures ∙ ap (cheb2Prototype _ _) (c .before .before .warp .ensures)))
 
 pub design-chebyshev2-lp-spec : {M : Type 1} → statement M
 design-chebyshev2-lp-spec =

@@ -8,7 +8,7 @@ use Rattle.elementary.proofs.trigonometric.cos.Tie as tie
 
 returns : tie.Need-returns
 unfolding cosOf
-returns c = let e = c .before .before in rw (turnable-is _ (e .before .abs .ensures) (e .if1 .taken)) (cc)
+returns c = let e = c .before .before in rw (c .cos-in .ensures, c .before .reduced .ensures, turnable-is _ (e .before .abs .ensures) (e .if1 .taken))
 
 pub cos-spec : {M : Type 1} → statement M
 cos-spec =

@@ -8,7 +8,7 @@ use Rattle.elementary.proofs.trigonometric.sin.Tie as tie
 
 returns : tie.Need-returns
 unfolding sinOf
-returns c = let e = c .before .before in rw (turnable-is _ (e .before .abs .ensures) (e .if1 .taken)) (cc)
+returns c = let e = c .before .before in rw (c .sin-in .ensures, c .before .reduced .ensures, turnable-is _ (e .before .abs .ensures) (e .if1 .taken))
 
 pub sin-spec : {M : Type 1} → statement M
 sin-spec =
