@@ -114,7 +114,7 @@ fn put_section(s: Section, numbers: &mut [f64], at: usize)
 }
 
 // The numbers of four sections, in the first places.
-fn put_sections(sections: [Section; 4], numbers: &mut [f64])
+fn put_sections(sections: [Section; Cascade::MAX_SECTIONS], numbers: &mut [f64])
     requires { ⌜ length (now numbers) ≡ 32 ⌝ }
     ensures { λ _. ⌜ now (numbers .exit) ≡ sectionsNumbers (map sectionView sections) ++ drop 28 (now (numbers .entry)) ⌝ }
 {

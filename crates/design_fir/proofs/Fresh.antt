@@ -6,7 +6,7 @@ use native.Mathlib.Omega.{arith}
 use lib.Dec.{eqb}
 use lib.Ieee.{Float, binary64}
 use borrow.Author.Tests.{eqb-true, eqb-false}
-use Rattle.fir_theory.specs.Fir.{Made, blankTaps, holding}
+use Rattle.fir_theory.specs.Fir.{ReadyMade, Made, blankTaps, holding}
 use Rattle.limits.specs.Limits.{maxTaps}
 use Rattle.fir.specs.View.{FreshTaps}
 use Rattle.fir_theory.proofs.Fresh.{holding-fresh}
@@ -17,7 +17,7 @@ use Rattle.design_fir.specs.declared.WindowType.{WindowType}
 use Rattle.design_fir.specs.declared.WindowType.the-variants.{Rectangular, Hamming, Hanning, Blackman}
 use Rattle.design_fir.proofs.Taps.{taps-length}
 
-code-in : (w : WindowType) → codeOf w ≤ 4
+code-in : (w : WindowType) → codeOf w ≤ ReadyMade
 code-in Rectangular = omega arith
 code-in Hamming = omega arith
 code-in Hanning = omega arith

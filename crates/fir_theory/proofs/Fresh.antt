@@ -14,14 +14,14 @@ use Rattle.fir_theory.proofs.Laws.{check-cleared}
 use Rattle.fir_theory.specs.Fir.{TapsRecord, ReadyMade, checkTaps, clearedTaps, blankTaps, fir, holding, fromCoeffs, Made}
 
 module _ (capacity : ℕ) (f : Format) where
-  pub holding-fresh : (ts : List Float) (window : ℕ) → 0 < length ts → length ts ≤ capacity → window ≤ 4 → Fresh (fir capacity f) (holding capacity ts window)
+  pub holding-fresh : (ts : List Float) (window : ℕ) → 0 < length ts → length ts ≤ capacity → window ≤ ReadyMade → Fresh (fir capacity f) (holding capacity ts window)
   unfolding checkTaps clearedTaps holding
   holding-fresh ts window h k w = record {
     checked = rw (
       le-leb 1 (length ts) (omega arith),
       le-leb (length ts) capacity k,
       le-leb 0 (length ts) (omega arith),
-      le-leb window 4 w,
+      le-leb window ReadyMade w,
     );
     cleared = refl;
   }

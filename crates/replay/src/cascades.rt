@@ -25,10 +25,15 @@ fn meet_section(place: usize, stored: &[u64], s: Section) -> usize {
 }
 
 // The first `count` sections.
-fn meet_sections(place: usize, stored: &[u64], sections: [Section; 4], count: usize) -> usize {
+fn meet_sections(
+    place: usize,
+    stored: &[u64],
+    sections: [Section; Cascade::MAX_SECTIONS],
+    count: usize,
+) -> usize {
     let mut place = place;
     let mut i: usize = 0;
-    while i < 4 && i < count {
+    while i < Cascade::MAX_SECTIONS && i < count {
         let s = sections[i];
         place = meet_section(place, stored, s);
         i += 1;

@@ -46,11 +46,11 @@ pub(crate) fn meets_answer(stored: &[u64], a: Answer) -> bool {
     meet(meet(0, stored, code), stored, value) == stored.len()
 }
 
-// The first n numbers.
-fn meet_floats(place: usize, stored: &[u64], xs: &[f64; MOST], n: usize) -> usize {
+// The first n numbers, or all where they are fewer.
+pub(crate) fn meet_floats(place: usize, stored: &[u64], xs: &[f64], n: usize) -> usize {
     let mut place = place;
     let mut i: usize = 0;
-    while i < MOST && i < n {
+    while i < xs.len() && i < n {
         place = meet_float(place, stored, xs[i]);
         i += 1;
     }

@@ -4,7 +4,7 @@ use crate::compare::capped;
 use crate::compare::float;
 use crate::compare::floats;
 use crate::compare::meet;
-use crate::compare::meet_float;
+use crate::compare::meet_floats;
 use crate::compare::meets_answer;
 use crate::compare::meets_block;
 use crate::compare::meets_refusal;
@@ -15,22 +15,6 @@ use design_request::DesignRequest;
 use fir::FirDesignResult;
 use fir::TapRecord;
 
-// The first `length` taps.
-fn meet_taps(
-    place: usize,
-    stored: &[u64],
-    taps: [f64; TapRecord::MAX_TAPS],
-    length: usize,
-) -> usize {
-    let mut place = place;
-    let mut i: usize = 0;
-    while i < TapRecord::MAX_TAPS && i < length {
-        place = meet_float(place, stored, taps[i]);
-        i += 1;
-    }
-    place
-}
-
 // Whether the making of a record is as stored: 0 or its refusal number, the number of taps, the window's code and the
 // taps.
 fn meets_made(stored: &[u64], refusal: u8, filter: TapRecord) -> bool {
@@ -38,7 +22,7 @@ fn meets_made(stored: &[u64], refusal: u8, filter: TapRecord) -> bool {
     let place = meet(place, stored, filter.length as u64);
     let place = meet(place, stored, filter.window as u64);
     let taps = filter.taps;
-    meet_taps(place, stored, taps, filter.length) == stored.len()
+    meet_floats(place, stored, &taps, filter.length) == stored.len()
 }
 
 // The window of a code.

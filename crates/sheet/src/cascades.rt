@@ -34,10 +34,15 @@ fn put_section(output: &mut [u8], at: usize, s: Section) -> usize {
 }
 
 // The sections that are counted.
-fn put_sections(output: &mut [u8], at: usize, sections: [Section; 4], count: usize) -> usize {
+fn put_sections(
+    output: &mut [u8],
+    at: usize,
+    sections: [Section; Cascade::MAX_SECTIONS],
+    count: usize,
+) -> usize {
     let mut at = at;
     let mut i: usize = 0;
-    while i < 4 {
+    while i < Cascade::MAX_SECTIONS {
         if i >= count {
             return at;
         }

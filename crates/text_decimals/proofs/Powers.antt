@@ -8,7 +8,7 @@ use lib.IntN.{pos, negsuc}
 use lib.ListN.{getD}
 use lib.Ieee.{Float, nan, inf, fin, binary64, ofInt, ofBits}
 use lib.Ieee.Fits.{and-l, and-r}
-use Rattle.scalar.proofs.Table.{at}
+use Rattle.lists.proofs.Table.{at}
 
 -- the code's table
 unfoldable pub table : List ℕ

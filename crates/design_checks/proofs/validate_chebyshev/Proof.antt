@@ -6,6 +6,7 @@ use native.Mathlib.Omega.{arith}
 use lib.Ieee.{Float}
 use Rattle.scalar.specs.Operators.{_⊗_}
 use Rattle.scalar.specs.Constants.{half}
+use Rattle.limits.specs.Limits.{maxOrder}
 use Rattle.runs.specs.Refusals.{Accepted, InvalidOrder, InvalidFrequency, InvalidSampleRate, orderRefused}
 use Rattle.design_checks.specs.Checks.{rateRefused, cutoffRefused, checksThen, validateParams, validateChebyshev}
 use borrow.Author.Needs.{needs}
@@ -18,7 +19,7 @@ numbers a b c next = cond a InvalidOrder (cond b InvalidSampleRate (cond c Inval
 -- the checks 1, 3, 2 drew a number, so what comes after them is not asked; or drew none, so that decides
 drew : (cutoff rate : Float) (n next : ℕ) → (validateParams cutoff rate n ≡ 0 → ⊥) → validateParams cutoff rate n ≡ checksThen cutoff rate n next
 unfolding validateParams
-drew cutoff rate n next = go (orderRefused n 8) (rateRefused rate) (cutoffRefused cutoff (rate ⊗ half))
+drew cutoff rate n next = go (orderRefused n maxOrder) (rateRefused rate) (cutoffRefused cutoff (rate ⊗ half))
   where
     go : (a b c : Bool) → (numbers a b c Accepted ≡ 0 → ⊥) → numbers a b c Accepted ≡ numbers a b c next
     go true b c h = refl
@@ -28,7 +29,7 @@ drew cutoff rate n next = go (orderRefused n 8) (rateRefused rate) (cutoffRefuse
 
 drew-none : (cutoff rate : Float) (n next : ℕ) → validateParams cutoff rate n ≡ 0 → next ≡ checksThen cutoff rate n next
 unfolding validateParams
-drew-none cutoff rate n next = go (orderRefused n 8) (rateRefused rate) (cutoffRefused cutoff (rate ⊗ half))
+drew-none cutoff rate n next = go (orderRefused n maxOrder) (rateRefused rate) (cutoffRefused cutoff (rate ⊗ half))
   where
     none : (d : ℕ) → suc d ≡ 0 → ⊥
     none d e = omega arith

@@ -10,7 +10,7 @@ use lib.Ieee.Fits.{and-l, and-r}
 use Rattle.scalar.specs.Operators.{_⊘_, nat}
 use Rattle.scalar.specs.Constants.{one}
 use Rattle.series.specs.Series.{fact, invFact}
-use Rattle.scalar.proofs.Table.{at}
+use Rattle.lists.proofs.Table.{at}
 use borrow.Author.Needs.{needs}
 use Rattle.series.proofs.inverse_factorial.Statement.{statement}
 use Rattle.series.proofs.inverse_factorial.Tie as tie
