@@ -1,6 +1,5 @@
--- Before every turn a line is four sections, as they are one sample after the other, that have taken three samples more, each as far as it goes: so what comes
--- out of it is
--- what they answer.
+-- Before every turn a line is four sections, as they are one sample after the other, that have taken three samples more, each as far as it goes:
+-- so what comes out of it is what they answer.
 use mathlib.Core.Path.{_≡_, refl, ap, _∙_}
 use mathlib.Core.Bool.{false, true}
 use mathlib.Core.List.{List}

@@ -31,8 +31,8 @@ pub record AcceptedIsFresh : Type 0 where
   pub cascadeReset : (c : CascadeRecord) → reset (cascade binary64) c .refusal ≡ 0 → FreshCascade (reset (cascade binary64) c .state)
   pub firReset : (r : TapsRecord) → reset (fir maxTaps binary64) r .refusal ≡ 0 → FreshTaps (reset (fir maxTaps binary64) r .state)
 
--- ---- through the C library: what an accepted call that makes a filter leaves in the slices fits, and is fresh. Each premise is the call's contract, word for
--- word.
+-- ---- through the C library: what an accepted call that makes a filter leaves in the slices fits, and is fresh. Each premise is the call's
+-- contract, word for word.
 abbrev pub CascadeMade : DesignRecord → Type 0
 CascadeMade d = (numbers numbers′ : List Float) (counts counts′ : List ℕ) → record { refusal = Accepted; numbers = numbers′; counts = counts′ }
     ≡ designCall d numbers counts

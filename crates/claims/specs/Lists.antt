@@ -1,6 +1,5 @@
--- Demand 3 of the calls themselves: lists of calls of the code, each on the record that the call before it returned, and of the C library, each on what the
--- call
--- before it left in the slices.
+-- Demand 3 of the calls themselves: lists of calls of the code, each on the record that the call before it returned, and of the C library,
+-- each on what the call before it left in the slices.
 use mathlib.Core.Path.{_≡_}
 use mathlib.Core.List.{List, [], _∷_}
 use Prim.Native.Nat.{ℕ}

@@ -27,6 +27,6 @@ madeView m = record { refusal = m .refusal; filter = tapsView (m .filter) }
 abbrev pub blockView : BlockResult → List Float → Block TapsRecord
 blockView r output = record { refusal = r .refusal; clouded = r .clouded; state = tapsView (r .filter); output = output }
 
--- a fresh record at f64 and the code's maxTaps
+-- a fresh record at f64, with room for as many taps as the code's has
 abbrev pub FreshTaps : TapsRecord → Type 0
 FreshTaps r = Fresh (fir maxTaps binary64) r

@@ -1,6 +1,5 @@
--- Laws: loops over taps and samples, the check, and what a step and a reset return. Fresh: records that hold no sample. Forgetting: the forgetting rule. Sums,
--- Copies, Full,
--- Line and Long: a long block.
+-- Laws: loops over taps and samples, the check, and what a step and a reset return. Fresh: records that hold no sample. Forgetting: the
+-- forgetting rule. Sums, Copies, Full, Line and Long: a long block.
 pub mod Laws
 pub mod Fresh
 pub mod Forgetting

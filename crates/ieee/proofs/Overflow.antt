@@ -1,6 +1,5 @@
--- What is nearest is an infinity exactly from 2 ^ emax * (2 - 2 ^ -prec) on, as IEEE 754 (4.3.1) says (`overflows`, `overflows-back`), for every format and
--- every real
--- number. So counting an infinity as 2 ^ (emax + 1), as `num` does, is what the standard asks.
+-- What is nearest is an infinity exactly from 2 ^ emax * (2 - 2 ^ -prec) on, as IEEE 754 (4.3.1) says (`overflows`, `overflows-back`), for every
+-- format and every real number. So counting an infinity as 2 ^ (emax + 1), as `num` does, is what the standard asks.
 use mathlib.Core.Path.{_≡_, refl, sym, ap, _∙_, subst}
 use mathlib.Core.Logic.{inl, inr}
 use mathlib.Core.Bool.{Bool}

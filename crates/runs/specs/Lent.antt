@@ -1,6 +1,5 @@
--- A record lent as slices: a step, a reset and a block of it, where the slices fit the record. Slices that do not are refused by 13 before anything else, and
--- the
--- call changes nothing.
+-- A record lent as slices: a step, a reset and a block of it, where the slices fit the record. Slices that do not are refused by 13 before
+-- anything else, and the call changes nothing.
 use Prim.Native.Nat.{ℕ}
 use mathlib.Core.Bool.{Bool, cond}
 use mathlib.Core.List.{List}

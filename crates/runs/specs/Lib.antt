@@ -1,6 +1,5 @@
--- What a step, a block and a reset do with any record that answers samples, the same of records lent as slices, the forgetting rule, the refusal numbers, and
--- the
--- code's answer read as these definitions have it.
+-- What a step, a block and a reset do with any record that answers samples, the same of records lent as slices, the forgetting rule, the
+-- refusal numbers, and the code's answer read as these definitions have it.
 pub mod Refusals
 pub mod Runs
 pub mod Lent

@@ -1,5 +1,5 @@
--- The refusal numbers of 01's two tables, under their names there, that of records lent as slices, and the test of number 1, which designs and ready-made taps
--- share.
+-- The refusal numbers of 01's two tables, under their names there, that of records lent as slices, and the test of number 1, which designs
+-- and ready-made taps share.
 use Prim.Native.Nat.{ℕ}
 use mathlib.Core.Bool.{Bool, _||_}
 use lib.Dec.{eqb, ltb}

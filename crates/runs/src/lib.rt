@@ -1,5 +1,5 @@
-// What running has in common, whatever the filter: the answer to a sample, the refusal numbers, and whether samples are finite. What a step, a
-// block and a reset are, for any filter, width and capacity, stands in specs/.
+// What running has in common, whatever the filter: the answer to a sample, the refusal numbers, and whether samples are
+// finite. What a step, a block and a reset are, for any filter, width and capacity, stands in specs/.
 ghost use mathlib.Core.Path.{_≡_};
 ghost use mathlib.Core.Bool.{cond};
 ghost use lib.ListN.{take};

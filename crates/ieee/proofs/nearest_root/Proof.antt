@@ -1,6 +1,5 @@
--- `ieee::nearest_root` meets its contract. The loop's invariant: the weight w is a power of two, y * w is what is left of m * 2 ^ 52 with q * q taken off, and
--- q + w is
--- above the root. The measure is w.
+-- `ieee::nearest_root` meets its contract. The loop's invariant: the weight w is a power of two, y * w is what is left of m * 2 ^ 52 with q * q
+-- taken off, and q + w is above the root. The measure is w.
 use mathlib.Core.Path.{_≡_, refl}
 use Prim.Native.Nat.{ℕ, _+_, _-_, _*_, _/_, _^_, _≤_, _<_}
 use native.Mathlib.Omega.{arith}
