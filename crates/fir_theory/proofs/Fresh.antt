@@ -14,7 +14,8 @@ use Rattle.fir_theory.proofs.Laws.{check-cleared}
 use Rattle.fir_theory.specs.Fir.{TapsRecord, ReadyMade, checkTaps, clearedTaps, blankTaps, fir, holding, fromCoeffs, Made}
 
 module _ (capacity : ℕ) (f : Format) where
-  pub holding-fresh : (ts : List Float) (window : ℕ) → 0 < length ts → length ts ≤ capacity → window ≤ ReadyMade → Fresh (fir capacity f) (holding capacity ts window)
+  pub holding-fresh : (ts : List Float) (window : ℕ) → 0 < length ts → length ts ≤ capacity → window ≤ ReadyMade
+      → Fresh (fir capacity f) (holding capacity ts window)
   unfolding checkTaps clearedTaps holding
   holding-fresh ts window h k w = record {
     checked = rw (
