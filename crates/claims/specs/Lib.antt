@@ -1,7 +1,5 @@
--- What the claims say.
-pub mod Ieee
-pub mod Elementary
-pub mod Decimals
+-- What is claimed of designs and filters. Refused: refusals by the checks. Fresh: what is accepted is fresh. Forgetting: the forgetting rule over the
+-- definitions. Lists: the same of lists of calls. Sheet: the release sheet.
 pub mod Refused
 pub mod Fresh
 pub mod Forgetting

@@ -14,7 +14,7 @@ use Rattle.cascade_theory.specs.Section.{SectionRecord}
 use Rattle.cascade_theory.specs.Cascade.{CascadeRecord}
 use Rattle.cascade.specs.View.{FreshCascade}
 use Rattle.fir_theory.specs.Fir.{Made, ReadyMade, Blackman, blankTaps, holding, fromCoeffs}
-use Rattle.limits.specs.Limits.{maxTaps}
+use Rattle.limits.specs.Limits.{maxSections, maxTaps}
 use Rattle.fir_theory.specs.Lent.{fits}
 use Rattle.fir_theory.proofs.Laws.{sizes, lengths-fit}
 use Rattle.fir_theory.proofs.Fresh.{ready-made-fresh}
@@ -43,10 +43,17 @@ use Rattle.claims.specs.Fresh.{CascadeMade, TapsMade}
 use Rattle.claims.proofs.c_made_filters_are_fresh.Statement.{statement}
 use Rattle.claims.proofs.c_made_filters_are_fresh.Tie as tie
 
+-- one number for two outcomes
+accepted-bad : Accepted ≡ BadCall → ⊥
+accepted-bad e = omega arith
+
+order-accepted : InvalidOrder ≡ Accepted → ⊥
+order-accepted e = omega arith
+
 -- ---- cascades
 
--- a design whose cascade has four sections
-cascade-made : (d : DesignRecord) → length (d .cascade .sections) ≡ 4 → (d .refusal ≡ 0 → FreshCascade (d .cascade)) → CascadeMade d
+-- a design whose cascade has as many sections as there are places
+cascade-made : (d : DesignRecord) → length (d .cascade .sections) ≡ maxSections → (d .refusal ≡ 0 → FreshCascade (d .cascade)) → CascadeMade d
 unfolding designCall
 cascade-made d four fresh numbers numbers′ counts counts′ e = go (cascadePlaces numbers counts) (eqb (d .refusal) 0) refl refl
   where
@@ -58,10 +65,7 @@ cascade-made d four fresh numbers numbers′ counts counts′ e = go (cascadePla
 
     go : (a b : Bool) → cascadePlaces numbers counts ≡ a → eqb (d .refusal) 0 ≡ b → (cascadeFits numbers′ counts′ ≡ true)
         × FreshCascade (cascadeAt numbers′ counts′)
-    go false b p q = absurd (bad (ap (λ (z : Stored). z .refusal) (e ∙ ap₂ done p q)))
-      where
-        bad : _≡_ {A = ℕ} 0 13 → ⊥
-        bad e = omega arith
+    go false b p q = absurd (accepted-bad (ap (λ (z : Stored). z .refusal) (e ∙ ap₂ done p q)))
     go true false p q = absurd (eqb-false (d .refusal) 0 q (sym (ap (λ (z : Stored). z .refusal) (e ∙ ap₂ done p q))))
     go true true p q =
         let z = e ∙ ap₂ done p q in
@@ -76,10 +80,10 @@ padded-length zero ss = refl
 padded-length (suc p) [] = ap suc (padded-length p [])
 padded-length (suc p) (s ∷ ss) = ap suc (padded-length p ss)
 
-four-sections : (v : ℕ) (c : CascadeRecord) → length (c .sections) ≡ 4 → length (unlessRefused v c .cascade .sections) ≡ 4
+four-sections : (v : ℕ) (c : CascadeRecord) → length (c .sections) ≡ maxSections → length (unlessRefused v c .cascade .sections) ≡ maxSections
 four-sections v c h = go (eqb v 0)
   where
-    go : (b : Bool) → length (cond b (accepted c) (refusedDesign v) .cascade .sections) ≡ 4
+    go : (b : Bool) → length (cond b (accepted c) (refusedDesign v) .cascade .sections) ≡ maxSections
     go true = h
     go false = refl
 
@@ -88,13 +92,13 @@ prototype-made : (v : ℕ) (p : Prototype) (n : ℕ) (d : DesignRecord) → d �
     → CascadeMade d
 unfolding prototypeCascade
 prototype-made v p n d e fresh = cascade-made d (ap (λ (r : DesignRecord). length (r .cascade .sections)) e
-    ∙ four-sections v (prototypeCascade p n) (padded-length 4 (upTo (pairOf p n) (n / 2)))) fresh
+    ∙ four-sections v (prototypeCascade p n) (padded-length maxSections (upTo (pairOf p n) (n / 2)))) fresh
 
 band-made : (v n : ℕ) (wl wh : Float) (d : DesignRecord) → d ≡ unlessRefused v (bpCascade n wl wh) → (d .refusal ≡ 0 → FreshCascade (d .cascade))
     → CascadeMade d
 unfolding bpCascade
 band-made v n wl wh d e fresh = cascade-made d (ap (λ (r : DesignRecord). length (r .cascade .sections)) e
-    ∙ four-sections v (bpCascade n wl wh) (padded-length 4 (bpSections n (wh ⊖ wl) (wl ⊗ wh)))) fresh
+    ∙ four-sections v (bpCascade n wl wh) (padded-length maxSections (bpSections n (wh ⊖ wl) (wl ⊗ wh)))) fresh
 
 -- ---- tap records
 
@@ -120,10 +124,7 @@ taps-made m ts w is fresh taps taps′ samples samples′ counts counts′ e = g
 
     go : (a b : Bool) → tapsPlaces taps samples counts ≡ a → eqb (m .refusal) 0 ≡ b → (tapsFit taps′ samples′ counts′ ≡ true)
         × FreshTaps (tapsAt taps′ samples′ counts′)
-    go false b p q = absurd (bad (ap (λ (z : TapsStored). z .refusal) (e ∙ ap₂ done p q)))
-      where
-        bad : _≡_ {A = ℕ} 0 13 → ⊥
-        bad e = omega arith
+    go false b p q = absurd (accepted-bad (ap (λ (z : TapsStored). z .refusal) (e ∙ ap₂ done p q)))
     go true false p q = absurd (eqb-false (m .refusal) 0 q (sym (ap (λ (z : TapsStored). z .refusal) (e ∙ ap₂ done p q))))
     go true true p q =
         let z = e ∙ ap₂ done p q in
@@ -142,10 +143,7 @@ ready-is ts = go (orderRefused (length ts) maxTaps)
   where
     go : (b : Bool) → (let m : Made = cond b (record { refusal = InvalidOrder; filter = blankTaps maxTaps })
         (record { refusal = Accepted; filter = holding maxTaps ts ReadyMade }) in m .refusal ≡ 0 → m .filter ≡ holding maxTaps ts ReadyMade)
-    go true e = absurd (one e)
-      where
-        one : _≡_ {A = ℕ} 1 0 → ⊥
-        one e = omega arith
+    go true e = absurd (order-accepted e)
     go false e = refl
 
 designed-is : (n : ℕ) (cutoff : Float) (w : WindowType) → firLp n cutoff w .refusal ≡ 0 → firLp n cutoff w .filter
@@ -172,10 +170,7 @@ designed-made n cutoff window taps taps′ samples samples′ counts counts′ e
         taps-made m (firTaps (windowOf window) n cutoff) (codeOf (windowOf window)) (designed-is n cutoff (windowOf window))
         (fir-fresh n cutoff (windowOf window)) taps taps′ samples samples′ counts counts′
         (e ∙ ap called p)
-    go false p = absurd (bad (ap (λ (z : TapsStored). z .refusal) (e ∙ ap called p)))
-      where
-        bad : _≡_ {A = ℕ} 0 13 → ⊥
-        bad e = omega arith
+    go false p = absurd (accepted-bad (ap (λ (z : TapsStored). z .refusal) (e ∙ ap called p)))
 
 returns : tie.Need-returns
 unfolding butterworthLp butterworthHp chebyshev1Lp chebyshev2Lp butterworthBp
