@@ -53,7 +53,7 @@ impl TapRecord {
     // The most taps that a record holds.
     pub const MAX_TAPS: usize = limits::MAX_TAPS;
 
-    // The largest window code.
+    // The window code of ready-made taps, the largest.
     pub const READY_MADE: u8 = fir_step::READY_MADE as u8;
 
     // What a refused design returns: counts 0, numbers +0.
