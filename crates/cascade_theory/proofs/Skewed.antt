@@ -8,6 +8,7 @@ use lib.ListN.{length}
 use lib.Ieee.{Float, Format}
 use lib.Ieee.Scale.{finite}
 use borrow.Author.Tests.{le-leb, le-ltb}
+use Rattle.limits.specs.Limits.{maxSections}
 use Rattle.runs.specs.Runs.{Answer, clear, cloudedIn, written, notAllFinite, step, answers, after, block}
 use Rattle.cascade_theory.specs.Section.{SectionRecord}
 use Rattle.cascade_theory.specs.FirstOrder.{FirstOrderRecord}
@@ -17,7 +18,7 @@ use Rattle.cascade_theory.specs.Skewed.{listed, Skewable}
 
 -- a cascade of these sections alone, with this unused first-order part
 abbrev ofFour : FirstOrderRecord → FourRecord → CascadeRecord
-ofFour p c = record { sections = listed c; count = 4; first = p; hasFirst = false; clouded = false }
+ofFour p c = record { sections = listed c; count = maxSections; first = p; hasFirst = false; clouded = false }
 
 not-or : (a b : Bool) → (not a || b) ≡ false → (a ≡ true) × (b ≡ false)
 not-or true b e = (refl, e)

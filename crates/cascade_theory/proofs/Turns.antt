@@ -8,6 +8,7 @@ use lib.Dec.{ltb}
 use lib.ListN.{length, getD}
 use lib.Ieee.{Float, Format}
 use borrow.Author.Tests.{lt-ltb}
+use Rattle.limits.specs.Limits.{maxSections}
 use Rattle.cascade_theory.specs.Section.{SectionRecord, sectionOut, sectionNext}
 use Rattle.cascade_theory.specs.Parts.{sectionsOut, sectionsNext}
 
@@ -45,7 +46,7 @@ four-places view (s₀ ∷ s₁ ∷ s₂ ∷ s₃ ∷ s₄ ∷ ss) u l = absurd 
 
 -- whatever record the code has for a section
 pub four-turns : (f : Format) {A : Type 0} (view : A → SectionRecord) (ss : List A) (u : A) (n : ℕ) (x : Float) {y₀ y₁ y₂ y₃ : Float} {a b c d : A} → length ss
-    ≡ 4
+    ≡ maxSections
     → Turned f (ltb 0 n) (view (getD ss 0 u)) x y₀ (view a) → Turned f (ltb 1 n) (view (getD ss 1 u)) y₀ y₁ (view b)
     → Turned f (ltb 2 n) (view (getD ss 2 u)) y₁ y₂ (view c)
     → Turned f (ltb 3 n) (view (getD ss 3 u)) y₂ y₃ (view d)

@@ -2,6 +2,7 @@
 use mathlib.Core.Path.{_≡_}
 use native.Mathlib.Omega.{arith}
 use lib.ListN.{length}
+use Rattle.limits.specs.Limits.{maxSections}
 use Rattle.sections.specs.View.{sectionView}
 use Rattle.cascade_theory.proofs.Turns.{four-places}
 use borrow.Author.Needs.{needs}
@@ -10,7 +11,7 @@ use Rattle.cascade.proofs.by_name.Tie as tie
 
 returns : tie.Need-returns
 returns c = let s = c .before .before .before .before in
-    let four : length (s .args .t1) ≡ 4 = omega (arith, s .good .0 .1 .0 .1) in
+    let four : length (s .args .t1) ≡ maxSections = omega (arith, s .good .0 .1 .0 .1) in
     four-places sectionView (s .args .t1) _ four
 
 pub by-name-spec : {M : Type 1} → statement M

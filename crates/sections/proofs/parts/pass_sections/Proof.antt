@@ -3,6 +3,7 @@ use mathlib.Core.Path.{_≡_}
 use native.Mathlib.Omega.{arith}
 use lib.ListN.{length}
 use lib.Ieee.{binary64}
+use Rattle.limits.specs.Limits.{maxSections}
 use Rattle.sections.specs.View.{sectionView}
 use Rattle.cascade_theory.proofs.Turns.{four-turns}
 use borrow.Author.Needs.{needs}
@@ -14,7 +15,7 @@ returns c = let after-turn3 : tie.After-turn3 = search in
     let after-turn2 : tie.After-turn2 = search in
     let after-turn : tie.After-turn = search in
     let s : tie.Start = search in
-    let four : length (s .args .t1) ≡ 4 = omega (arith, s .good .0 .1 .0 .1) in
+    let four : length (s .args .t1) ≡ maxSections = omega (arith, s .good .0 .1 .0 .1) in
     let p = after-turn .turn .ensures in
     let q = after-turn2 .turn2 .ensures in
     let r = after-turn3 .turn3 .ensures in
