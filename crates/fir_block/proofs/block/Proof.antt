@@ -29,7 +29,7 @@ abbrev start : tie.Else1 → tie.Start
 start e = known e .before .before .before .before
 
 abbrev lent-of : tie.Else1 → TapsRecord
-lent-of e = let a = start e .args in lentTaps (a .taps .now) (a .samples .now) (a .n) (a .held) (a .window)
+lent-of e = let a = start e .args in lentTaps (a .taps .now) (a .samples .now) (a .length) (a .held) (a .window)
 
 good : (e : tie.Else1) → (fits maxTaps (lent-of e) ≡ true) × (checkTaps maxTaps (lent-of e) ≡ true)
 good e = lent-good (fir maxTaps binary64) (fits maxTaps) (lent-of e) (λ z. omega arith) (sym (e .before .refusal-of .ensures) ∙ e .if1 .left)
@@ -48,7 +48,7 @@ else1 j = j .before .before
 room : (j : tie.Joined3) → length (start (else1 j) .args .input .now) ≤ length (start (else1 j) .args .output .now)
 room j = j .before .if2 .left
 
-first-is : (j : tie.Joined3) → j .if3 .first ≡ min (length (start (else1 j) .args .input .now)) (start (else1 j) .args .n - start (else1 j) .args .held)
+first-is : (j : tie.Joined3) → j .if3 .first ≡ min (length (start (else1 j) .args .input .now)) (start (else1 j) .args .length - start (else1 j) .args .held)
 first-is j = ⊎-elim (λ w. omega arith) (λ w. omega arith) (j .if3 .came)
 
 sub-missing : tie.Need-sub-missing
@@ -75,8 +75,8 @@ abbrev joined : tie.Else4 → tie.Joined3
 joined q = front q .before .before .before
 
 full : (q : tie.Else4) → let a = start (else1 (joined q)) .args in let p = front q .pass-some in
-    (checkTaps maxTaps (lentTaps (a .taps .now) (p .last .1 .0) (a .n) (p .result .held) (a .window)) ≡ true)
-    × (p .result .held ≡ a .n) × (length (p .last .1 .1 .1 .1 .1 .1 .1 .0) ≡ length (a .output .now))
+    (checkTaps maxTaps (lentTaps (a .taps .now) (p .last .1 .0) (a .length) (p .result .held) (a .window)) ≡ true)
+    × (p .result .held ≡ a .length) × (length (p .last .1 .1 .1 .1 .1 .1 .1 .0) ≡ length (a .output .now))
 full q = let j = joined q in
     front-full maxTaps binary64 (lent-of (else1 j)) _ _ (j .if3 .first) (good (else1 j) .1) (omega (arith, first-is j)) (room j)
     (omega (arith, first-is j, q .if4 .left)) (front q .pass-some .ensures)
@@ -95,7 +95,7 @@ rest a = a .before .before .before
 
 both : (a : tie.After-pass-all) → let j = else1 (joined (rest a)) in let s = start j .args in let p = front (rest a) .pass-some .result in
     (p .clouded + a .pass-all .result ≤ length (s .input .now))
-    × (ranBlock (p .clouded + a .pass-all .result) (lentTaps (s .taps .now) (a .pass-all .last .1 .0) (s .n) (p .held) (s .window))
+    × (ranBlock (p .clouded + a .pass-all .result) (lentTaps (s .taps .now) (a .pass-all .last .1 .0) (s .length) (p .held) (s .window))
     (a .pass-all .last .1 .1 .1 .1 .1 .0) ≡ block (fir maxTaps binary64) (lent-of j) (s .input .now) (s .output .now))
 both a = let j = joined (rest a) in
     let f = full (rest a) in
