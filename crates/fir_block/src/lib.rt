@@ -186,6 +186,17 @@ fn pass_some(
     PassResult { clouded, held }
 }
 
+// What a refused block returns: it counts 0 and leaves the held count.
+fn refused(refusal: u8, held: usize) -> BlockResult
+    ensures { λ r. ⌜ (r .refusal ≡ refusal) × (r .clouded ≡ 0) × (r .held ≡ held) ⌝ }
+{
+    BlockResult {
+        refusal,
+        clouded: 0,
+        held,
+    }
+}
+
 // A block of samples, each as `fir_step::update` has it: the answers in the first places of the output, later places left. An
 // output shorter than the input is refused by 5.
 pub fn block(
@@ -208,18 +219,10 @@ pub fn block(
 {
     let refusal = fir_step::refusal_of(taps, samples, length, held, window);
     if refusal != 0 {
-        return BlockResult {
-            refusal,
-            clouded: 0,
-            held,
-        };
+        return refused(refusal, held);
     }
     if output.len() < input.len() {
-        return BlockResult {
-            refusal: runs::SHORT_OUTPUT,
-            clouded: 0,
-            held,
-        };
+        return refused(runs::SHORT_OUTPUT, held);
     }
     let missing = length - held;
     let all = input.len();

@@ -35,11 +35,15 @@ good : (e : tie.Else1) → (fits maxTaps (lent-of e) ≡ true) × (checkTaps max
 good e = lent-good (fir maxTaps binary64) (fits maxTaps) (lent-of e) (λ z. omega arith) (sym (e .before .refusal-of .ensures) ∙ e .if1 .left)
 
 returns : tie.Need-returns
-returns c = lent-block-refused (fir maxTaps binary64) (fits maxTaps) _ _ _ (c .before .refusal-of .ensures) (c .if1 .taken)
+returns c = let r = c .refused .ensures in
+    let f = c .before in
+    rw (r .0, r .1, r .2) (lent-block-refused (fir maxTaps binary64) (fits maxTaps) _ _ _ (f .before .refusal-of .ensures) (f .if1 .taken))
 
 returns-2 : tie.Need-returns-2
-returns-2 c = let g = good (c .before) in
-    block-short (fir maxTaps binary64) _ _ _ (g .1) (c .if2 .taken) ∙ sym (lent-block (fir maxTaps binary64) (fits maxTaps) _ _ _ (g .0))
+returns-2 c = let r = c .refused2 .ensures in
+    let g = good (c .before .before) in
+    rw (r .0, r .1, r .2) (block-short (fir maxTaps binary64) _ _ _ (g .1) (c .before .if2 .taken)
+    ∙ sym (lent-block (fir maxTaps binary64) (fits maxTaps) _ _ _ (g .0)))
 
 -- ---- where the arms meet
 abbrev else1 : tie.Joined3 → tie.Else1
@@ -116,6 +120,6 @@ returns-4 c = let a : tie.After-pass-all = search in
 pub block-spec : {M : Type 1} → statement M
 block-spec =
     tie.close
-    (tie.spec (λ c κs. search needs) (λ c. search needs) returns (λ c. search needs) returns-2
+    (tie.spec (λ c κs. search needs) (λ c κs. search needs) (λ c. search needs) returns (λ c κs. search needs) (λ c. search needs) returns-2
     sub-missing pass-some-requires (λ c. search needs) (λ c. search needs) returns-3
     pass-all-requires add-t17 (λ c. search needs) (λ c. search needs) returns-4)
