@@ -1,17 +1,17 @@
 -- A long block from a full record: what the delay line holds, the two stretches of outputs, and the newest samples.
 use mathlib.Core.Path.{_≡_, refl, sym, ap, ap₂, _∙_, subst}
-use mathlib.Core.List.{List, [], _∷_, _++_, reverseAux, append-assoc}
+use mathlib.Core.List.{List, [], _∷_, _++_, reverseAux, reverseAux-append, append-assoc}
 use Prim.Native.Nat.{ℕ, zero, suc, _+_, _-_, _<_, _≤_}
 use native.Mathlib.Nat.{sub-zero}
 use native.Mathlib.Omega.{arith}
-use lib.ListN.{length, getD, take, drop, length-drop, length-append, take-append-drop, List·getD-append}
+use lib.ListN.{length, getD, take, drop, length-drop, length-append, length-reverseAux, take-append-drop, List·getD-append}
 use lib.Seq.{take-all, getD-take, getD-drop, getD-append-add, length-take-le, take-at}
 use lib.Ieee.{Float, nan, Format}
 use Rattle.lists.specs.Lists.{spliced}
+use Rattle.lists.proofs.Places.{part-length}
 use Rattle.fir_theory.specs.Convolution.{sumsFrom}
 use borrow.Author.Tests.{lt-ltb, le-ltb}
 use Rattle.fir_theory.specs.Blocks.{backFrom, newestOf}
-use Rattle.fir_theory.proofs.Copies.{part-length}
 use Rattle.fir_theory.proofs.Full.{Past, past-after, back-past, values, values-at}
 
 pub back-at : (n : ℕ) (x : List Float) (k j : ℕ) → j < n → getD (backFrom n x k) j nan ≡ getD x (k - j) nan
@@ -24,10 +24,6 @@ pub back-length : (n : ℕ) (x : List Float) (k : ℕ) → length (backFrom n x 
 unfolding backFrom
 back-length zero x k = refl
 back-length (suc n) x k = ap suc (back-length n x (k - 1))
-
-reverse-append : (a b s : List Float) → reverseAux (a ++ b) s ≡ reverseAux b (reverseAux a s)
-reverse-append [] b s = refl
-reverse-append (x ∷ a) b s = reverse-append a b (x ∷ s)
 
 values-append : (f : Format) (ts : List Float) (n : ℕ) (L a b : List Float) → values f ts n L (a ++ b) ≡ values f ts n L a ++ values f ts n (reverseAux a L) b
 unfolding values
@@ -82,14 +78,13 @@ module _ (f : Format) (ts : List Float) (n : ℕ) (s input line : List Float) (f
       subst (λ (m : ℕ). Past line (n - 1 + m) (reverseAux (take e (drop from input)) s) n) few
       (past-after line (n - 1) s n (take e (drop from input)) old (λ j h. ap (λ (z : ℕ). getD line (z + j) nan) q ∙ new j (omega (arith, few))))
 
-  longer : (l r : List Float) → n ≤ length r → n ≤ length (reverseAux l r)
-  longer [] r h = h
-  longer (x ∷ l) r h = longer l (x ∷ r) (omega arith)
+  longer : (l : List Float) → n ≤ length (reverseAux l s)
+  longer l = rw (length-reverseAux l s) (omega arith)
 
   pub newest-of-few : e ≡ length (drop from input) → backFrom n line (n - 1 + e) ≡ take n (reverseAux (drop from input) s)
   newest-of-few h =
       let all : take e (drop from input) ≡ drop from input = take-all e (drop from input) (omega arith) in
-      back-past line (n - 1 + e) (reverseAux (take e (drop from input)) s) n (longer (take e (drop from input)) s held) then
+      back-past line (n - 1 + e) (reverseAux (take e (drop from input)) s) n (longer (take e (drop from input))) then
       ∙ ap (λ (l : List Float). take n (reverseAux l s)) all
 
   -- ---- where there are n samples or more: the second stretch looks at the input alone
@@ -114,7 +109,7 @@ module _ (f : Format) (ts : List Float) (n : ℕ) (s input line : List Float) (f
         let b : length (drop from input) - e ≡ length (drop n (drop from input)) = omega (arith, length-drop n (drop from input)) in
         ap₂ (λ (k m : ℕ). sumsFrom f ts n input k m) a b
         ∙ values-at f ts n input (from + n - 1) (reverseAux (take e (drop from input)) s) (drop n (drop from input)) enough
-        (longer (take e (drop from input)) s held) beyond left
+        (longer (take e (drop from input))) beyond left
         ∙ ap (λ (k : ℕ). values f ts n (reverseAux (take e (drop from input)) s) (drop k (drop from input))) (sym wide)
 
     pub newest-of-many : backFrom n input (from + length (drop from input) - 1) ≡ take n (reverseAux (drop from input) s)
@@ -123,9 +118,9 @@ module _ (f : Format) (ts : List Float) (n : ℕ) (s input line : List Float) (f
         let p = past-after input (from + n - 1) L n (drop n (drop from input)) beyond left in
         let a : from + n - 1 + length (drop n (drop from input)) ≡ from + length (drop from input) - 1 = omega (arith, length-drop n (drop from input)) in
         let b : reverseAux (drop n (drop from input)) L ≡ reverseAux (drop from input) s =
-        ap (λ (k : ℕ). reverseAux (drop k (drop from input)) L) (sym wide) ∙ sym (reverse-append (take e (drop from input)) (drop e (drop from input)) s)
+        ap (λ (k : ℕ). reverseAux (drop k (drop from input)) L) (sym wide) ∙ sym (reverseAux-append (take e (drop from input)) (drop e (drop from input)) s)
         ∙ ap (λ (l : List Float). reverseAux l s) (take-append-drop e (drop from input)) in
-        back-past input (from + length (drop from input) - 1) (reverseAux (drop from input) s) n (longer (drop from input) s held)
+        back-past input (from + length (drop from input) - 1) (reverseAux (drop from input) s) n (longer (drop from input))
         (subst (λ (l : List Float). Past input (from + length (drop from input) - 1) l n) b
         (subst (λ (k : ℕ). Past input k (reverseAux (drop n (drop from input)) L) n) a p))
 

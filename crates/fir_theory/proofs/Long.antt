@@ -3,10 +3,9 @@ use mathlib.Core.Path.{_≡_, refl, sym, ap, _∙_}
 use mathlib.Core.Bool.{Bool, true, false, cond}
 use mathlib.Core.List.{List, [], _∷_, _++_, reverseAux}
 use Prim.Native.Nat.{ℕ, suc, _+_, _-_, _≤_, min}
-use native.Mathlib.Nat.{add-zero}
 use native.Mathlib.Omega.{arith}
 use lib.Dec.{ltb}
-use lib.ListN.{length, take, drop, length-take, length-drop, take-append-drop, drop-of-length-le}
+use lib.ListN.{length, take, drop, length-take, length-drop, drop-of-length-le}
 use lib.Seq.{drop-drop}
 use lib.Ieee.{Float, Format, binary64}
 use borrow.Author.Tests.{le-leb, ltb-true, ltb-false}
@@ -14,7 +13,7 @@ use Rattle.runs.specs.Runs.{Answer, Block, cloudedIn, written, answers, after, 
 use Rattle.runs.proofs.Laws.{front-is, check-after, written-length, block-parts, parts-few}
 use Rattle.fir_theory.specs.Convolution.{sumsFrom, convolvable, convolved}
 use Rattle.lists.specs.Lists.{spliced}
-use Rattle.lists.proofs.Splices.{spliced-more, spliced-length}
+use Rattle.lists.proofs.Splices.{spliced-none, spliced-more, spliced-length}
 use Rattle.fir_theory.proofs.Sums.{length-sums}
 use Rattle.fir_theory.specs.Fir.{TapsRecord, checkTaps, fir}
 use Rattle.fir_theory.specs.Blocks.{backFrom, finiteRun, cloudsFrom, newestOf, ranBlock, FullRun}
@@ -23,10 +22,6 @@ use Rattle.fir_theory.specs.Lent.{lentTaps}
 use Rattle.fir_theory.proofs.Laws.{sizes, check-next}
 use Rattle.fir_theory.proofs.Full.{Full, values, answers-full, after-full, written-told, count-told, held-after}
 use Rattle.fir_theory.proofs.Line.{newest-of-few, newest-of-many, second-stretch, both-stretches}
-
-spliced-none : (output : List Float) (to : ℕ) → spliced output to [] ≡ output
-unfolding spliced
-spliced-none output to = rw add-zero (take-append-drop to output)
 
 values-length : (f : Format) (ts : List Float) (n : ℕ) (L xs : List Float) → length (values f ts n L xs) ≡ length xs
 unfolding values

@@ -1,6 +1,6 @@
 -- Laws of a step, a reset and a block, for any filter: what a function shows where it returns, and the loop of a block; and of refusal 1.
 use mathlib.Core.Path.{_≡_, refl, sym, ap, ap₂, _∙_}
-use mathlib.Core.Bool.{Bool, true, false, _||_, cond, true≢false}
+use mathlib.Core.Bool.{Bool, true, false, cond, true≢false}
 use mathlib.Core.List.{List, [], _∷_, _++_, append-assoc}
 use Prim.Native.Nat.{ℕ, zero, suc, _+_, _<_, _≤_}
 use native.Mathlib.Nat.{zero-lt-suc, zero-add, add-zero}
@@ -10,6 +10,8 @@ use lib.Dec.{eqb, ltb}
 use lib.ListN.{length, getD, set, take, drop, length-set, length-append, length-take, length-drop, take-append-drop, drop-of-length-le}
 use lib.Seq.{drop-cons, take-suc-set, drop-set-lt, drop-drop, take-at, drop-at}
 use borrow.Author.Tests.{ltb-false, lt-ltb, le-ltb}
+use Rattle.lists.proofs.Places.{part-length}
+use Rattle.lists.proofs.Tests.{neither}
 use Rattle.runs.specs.Refusals.{orderRefused, ShortOutput}
 use lib.Ieee.{Float, nan}
 use Rattle.runs.specs.Runs.{Answer, Step, refused, marked, isClouded, numberOf, refusalOf, cloudedIn, placed, written, Filter, Reset, Block, refusedBlock}
@@ -214,11 +216,7 @@ module _ (F : Filter) (s₀ : F .State) (input output₀ : List Float) where
 pub good-order : (n most : ℕ) → orderRefused n most ≡ false → (0 < n) × (n ≤ most)
 unfolding orderRefused
 good-order zero most e = absurd (true≢false e)
-good-order (suc n) most e = (zero-lt-suc n, ltb-false most (suc n) (either-no (eqb (suc n) 0) (ltb most (suc n)) e))
-  where
-    either-no : (a b : Bool) → (a || b) ≡ false → b ≡ false
-    either-no true b e = absurd (true≢false e)
-    either-no false b e = e
+good-order (suc n) most e = (zero-lt-suc n, ltb-false most (suc n) (neither (eqb (suc n) 0) (ltb most (suc n)) e .1))
 
 -- ---- a block in two parts
 module _ (F : Filter) (keeps : (s : F .State) (x : Float) → F .check s ≡ true → F .check (F .next s x) ≡ true) where
@@ -344,8 +342,8 @@ module _ (F : Filter) (keeps : (s : F .State) (x : Float) → F .check s ≡ tru
     run-part {s} {s′} {output} {ys} {refusal} {clouded} {c} {i} n h e p =
         let xs = take n (drop i input) in
         let os = take n (drop i output) in
-        let lx : length xs ≡ n = rw (length-take, length-drop) (omega arith) in
-        let lo : length os ≡ n = rw (length-take, length-drop) (omega (arith, p .room)) in
+        let lx = part-length input i n h in
+        let lo = part-length output i n (omega (arith, p .room)) in
         let q = e ∙ block-is F s xs os (p .good) (omega (arith, lx, lo)) in
         let a = answers F s xs in
         let la : length a ≡ n = answers-length F keeps s xs ∙ lx in
