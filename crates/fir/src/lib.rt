@@ -92,11 +92,7 @@ impl TapRecord {
         }
         let samples = no_numbers();
         let mut taps = no_numbers();
-        let mut i: usize = 0;
-        while i < length {
-            taps[i] = coeffs[i];
-            i += 1;
-        }
+        lists::copy(coeffs, &mut taps);
         FirDesignResult {
             refusal: 0,
             filter: TapRecord {
