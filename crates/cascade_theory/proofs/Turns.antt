@@ -18,6 +18,10 @@ pub record Turned (f : Format) (used : Bool) (s : SectionRecord) (x y : Float) (
   pub out : y ≡ cond used (sectionOut f s x) x
   pub next : t ≡ cond used (sectionNext f s x) s
 
+pub turned : (f : Format) {used : Bool} {s t : SectionRecord} {x y : Float} → (y ≡ cond used (sectionOut f s x) x) × (t ≡ cond used (sectionNext f s x) s)
+    → Turned f used s x y t
+turned f p = record { out = p .0; next = p .1 }
+
 passed : (f : Format) (a b c d a′ b′ c′ d′ : SectionRecord) (n : ℕ) (x y₀ y₁ y₂ y₃ : Float) → Turned f (ltb 0 n) a x y₀ a′ → Turned f (ltb 1 n) b y₀ y₁ b′
     → Turned f (ltb 2 n) c y₁ y₂ c′
     → Turned f (ltb 3 n) d y₂ y₃ d′ → (y₃ ≡ sectionsOut f n (a ∷ b ∷ c ∷ d ∷ []) x) × (a′ ∷ b′ ∷ c′ ∷ d′ ∷ [] ≡ sectionsNext f n (a ∷ b ∷ c ∷ d ∷ []) x)

@@ -2,7 +2,8 @@
 use borrow.Author.Needs.{needs}
 use lib.Ieee.{binary64}
 use Rattle.cascade_theory.specs.Skew.{lineOut}
-use Rattle.cascade_theory.proofs.Skew.{went, advanced-is}
+use Rattle.cascade_theory.proofs.Turns.{turned}
+use Rattle.cascade_theory.proofs.Skew.{advanced-is}
 use Rattle.pipeline.proofs.advance.Statement.{statement}
 use Rattle.pipeline.proofs.advance.Tie as tie
 
@@ -11,8 +12,8 @@ unfolding lineOut
 returns c = let d = c .before .before .before .before in
     let e = d .process4 .ensures in (
       e .0,
-      advanced-is binary64 (went binary64 (d .before .before .before .process .ensures)) (went binary64 (d .before .before .process2 .ensures))
-          (went binary64 (d .before .process3 .ensures)) (went binary64 e),
+      advanced-is binary64 (turned binary64 (d .before .before .before .process .ensures)) (turned binary64 (d .before .before .process2 .ensures))
+          (turned binary64 (d .before .process3 .ensures)) (turned binary64 e),
     )
 
 pub advance-spec : {M : Type 1} → statement M

@@ -1,15 +1,16 @@
 -- `pipeline::fill` meets its contract.
 use borrow.Author.Needs.{needs}
 use lib.Ieee.{binary64}
-use Rattle.cascade_theory.proofs.Skew.{went, filled-is}
+use Rattle.cascade_theory.proofs.Turns.{turned}
+use Rattle.cascade_theory.proofs.Skew.{filled-is}
 use Rattle.pipeline.proofs.fill.Statement.{statement}
 use Rattle.pipeline.proofs.fill.Tie as tie
 
 returns : tie.Need-returns
 returns c = let g = c .before .before .before .before in
-    filled-is binary64 (went binary64 (g .before .before .before .before .before .process .ensures))
-    (went binary64 (g .before .before .before .before .process2 .ensures)) (went binary64 (g .before .before .before .process3 .ensures))
-    (went binary64 (g .before .before .process4 .ensures)) (went binary64 (g .before .process5 .ensures)) (went binary64 (g .process6 .ensures))
+    filled-is binary64 (turned binary64 (g .before .before .before .before .before .process .ensures))
+    (turned binary64 (g .before .before .before .before .process2 .ensures)) (turned binary64 (g .before .before .before .process3 .ensures))
+    (turned binary64 (g .before .before .process4 .ensures)) (turned binary64 (g .before .process5 .ensures)) (turned binary64 (g .process6 .ensures))
 
 pub fill-spec : {M : Type 1} → statement M
 fill-spec =
