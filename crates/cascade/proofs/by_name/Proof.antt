@@ -11,8 +11,8 @@ use Rattle.cascade.proofs.by_name.Statement.{statement}
 use Rattle.cascade.proofs.by_name.Tie as tie
 
 returns : tie.Need-returns
-returns c = let s = c .before .before .before .before in
-    let four : length (s .args .t1) ≡ maxSections = omega (arith, s .good .0 .1 .0 .1) in
+returns c = let s : tie.Start = search in
+    let four : length (s .args .t1) ≡ maxSections = search needs in
     ap (map sectionView) (four-places (s .args .t1) _ four)
 
 pub by-name-spec : {M : Type 1} → statement M

@@ -22,11 +22,8 @@ use Rattle.fir_block.proofs.block.Statement.{statement}
 use Rattle.fir_block.proofs.block.Tie as tie
 
 -- ---- a record that is not refused
-abbrev known : tie.Else1 → tie.After-slice-known2
-known e = e .before .before .before
-
 abbrev start : tie.Else1 → tie.Start
-start e = known e .before .before .before .before
+start e = search
 
 abbrev lent-of : tie.Else1 → TapsRecord
 lent-of e = let a = start e .args in lentTaps (a .taps .now) (a .samples .now) (a .length) (a .held) (a .window)
@@ -76,7 +73,7 @@ abbrev front : tie.Else4 → tie.After-pass-some
 front q = q .before .before .before .before .before
 
 abbrev joined : tie.Else4 → tie.Joined3
-joined q = front q .before .before .before
+joined q = search
 
 full : (q : tie.Else4) → let a = start (else1 (joined q)) .args in let p = front q .pass-some in
     (checkTaps maxTaps (lentTaps (a .taps .now) (p .last .1 .0) (a .length) (p .result .held) (a .window)) ≡ true)
@@ -91,7 +88,8 @@ pass-all-requires c κs = let q = c .before .before in
     let g = good (else1 j) in
     let z = sizes maxTaps (lent-of (else1 j)) (g .1) in
     let l = fits-lengths maxTaps (lent-of (else1 j)) (g .0) in
-    (z .some, z .within, l .0, q .before .before .before .before .samples .given ∙ l .1, omega (arith, first-is j), omega (arith, full q .2, room j))
+    let after-samples : tie.After-samples = search in
+    (z .some, z .within, l .0, after-samples .samples .given ∙ l .1, omega (arith, first-is j), omega (arith, full q .2, room j))
 
 -- ---- both parts together
 abbrev rest : tie.After-pass-all → tie.Else4
@@ -115,7 +113,7 @@ add-t17 c = let a : tie.After-pass-all = search in
 
 returns-4 : tie.Need-returns-4
 returns-4 c = let a : tie.After-pass-all = search in
-    both a .1 ∙ sym (lent-block (fir maxTaps binary64) (fits maxTaps) _ _ _ (good (else1 (joined (a .before .before .before))) .0))
+    both a .1 ∙ sym (lent-block (fir maxTaps binary64) (fits maxTaps) _ _ _ (good (else1 (joined (rest a))) .0))
 
 pub block-spec : {M : Type 1} → statement M
 block-spec =

@@ -15,7 +15,7 @@ returns c = let after-turn3 : tie.After-turn3 = search in
     let after-turn2 : tie.After-turn2 = search in
     let after-turn : tie.After-turn = search in
     let s : tie.Start = search in
-    let four : length (s .args .t1) ≡ maxSections = omega (arith, s .good .0 .1 .0 .1) in
+    let four : length (s .args .t1) ≡ maxSections = search needs in
     four-turns binary64 sectionView (s .args .t1) _ (s .args .count) (s .args .x) four (turned binary64 (after-turn .turn .ensures))
     (turned binary64 (after-turn2 .turn2 .ensures)) (turned binary64 (after-turn3 .turn3 .ensures))
     (turned binary64 (c .before .before .before .before .turn4 .ensures))

@@ -22,7 +22,7 @@ abbrev μ-loop : tie.MeasureT-loop
 μ-loop kept₀ i₀ kept i = maxSections - i
 
 loop-holds : tie.Need-loop-holds Inv-loop μ-loop
-loop-holds c = map-start clearedSection maxSections (simp length-map (omega (arith, c .good .0 .1 .0 .1)))
+loop-holds c = map-start clearedSection maxSections (simp length-map (search needs))
 
 loop-again : tie.Need-loop-again Inv-loop μ-loop
 loop-again c = let l = c .before .before .before .loop in
@@ -32,7 +32,7 @@ loop-again c = let l = c .before .before .before .loop in
 returns : tie.Need-returns Inv-loop μ-loop
 returns c = let at = c .before in
     let old = map sectionView (at .before .args .sections) in
-    let four : length old ≡ maxSections = simp length-map (omega (arith, at .before .good .0 .1 .0 .1)) in
+    let four : length old ≡ maxSections = simp length-map (search needs) in
     overwrite-all _ (omega arith) (sym four) (at .loop .inv) ∙ ap (map clearedSection) (take-all maxSections old (omega arith))
 
 pub reset-sections-spec : {M : Type 1} → statement M
