@@ -1,5 +1,5 @@
 -- Both kinds of record are read back from slices as they were written into them.
-use mathlib.Core.Path.{_≡_, refl, ap, _∙_}
+use mathlib.Core.Path.{_≡_, refl, ap, _∙_, subst}
 use mathlib.Core.Bool.{Bool, true, false}
 use mathlib.Core.List.{List, [], _∷_}
 use Prim.Native.Nat.{ℕ, zero, suc}
@@ -8,7 +8,7 @@ use lib.Dec.{eqb}
 use lib.ListN.{length, length-map, length-replicate}
 use lib.Ieee.{Float, Format, binary64}
 use Rattle.limits.specs.Zero.{plusZero}
-use Rattle.cascade_theory.specs.Section.{SectionRecord, clearedSection, sectionOut}
+use Rattle.cascade_theory.specs.Section.{SectionRecord, blankSection, clearedSection, sectionOut}
 use Rattle.cascade_theory.specs.Parts.{sectionsNext}
 use Rattle.cascade_theory.specs.Cascade.{CascadeRecord, clearedCascade, entered, moved, next}
 use Rattle.cascade_theory.proofs.Laws.{check-next}
@@ -19,6 +19,7 @@ use Rattle.fir_theory.specs.Lent.{fits}
 use Rattle.fir_theory.proofs.Laws as Taps
 use Rattle.fir_theory.proofs.Laws.{fits-next, fits-lengths, lengths-fit}
 use Rattle.c_layout.specs.Layout.{cascadeAt, cascadeNumbers, sectionsNumbers, cascadeCounts, cascadePlaces, cascadeFits}
+use Rattle.lists.proofs.Places.{four-places}
 use Rattle.lists.proofs.Tests.{both}
 use Rattle.c_calls.specs.Kinds.{tapsAt, tapsCounts, tapsFit, cascadeKind, firKind}
 use Rattle.c_calls.proofs.Lists.{ReadBack}
@@ -33,23 +34,21 @@ next-length f (suc n) (s ∷ ss) x = ap suc (next-length f n ss (sectionOut f s 
 pub cascade-back : (c : CascadeRecord) → length (c .sections) ≡ 4 → (cascadeAt (cascadeNumbers c) (cascadeCounts c) ≡ c)
     × (cascadeFits (cascadeNumbers c) (cascadeCounts c) ≡ true)
 unfolding cascadeAt cascadeNumbers sectionsNumbers cascadeCounts cascadePlaces cascadeFits
-cascade-back c h = go (c .sections) (c .hasFirst) (c .clouded) h
+cascade-back c h =
+    subst (λ (ss : List SectionRecord). Back ss (c .hasFirst) (c .clouded)) (four-places (c .sections) blankSection h) (go _ _ _ _ (c .hasFirst) (c .clouded))
   where
     with : List SectionRecord → Bool → Bool → CascadeRecord
     with ss a b = record { sections = ss; count = c .count; first = c .first; hasFirst = a; clouded = b }
 
-    go : (ss : List SectionRecord) (a b : Bool) → length ss ≡ 4
-        → (cascadeAt (cascadeNumbers (with ss a b)) (cascadeCounts (with ss a b)) ≡ with ss a b)
+    Back : List SectionRecord → Bool → Bool → Type 0
+    Back ss a b = (cascadeAt (cascadeNumbers (with ss a b)) (cascadeCounts (with ss a b)) ≡ with ss a b)
         × (cascadeFits (cascadeNumbers (with ss a b)) (cascadeCounts (with ss a b)) ≡ true)
-    go [] a b e = absurd (omega (arith, e))
-    go (s₀ ∷ []) a b e = absurd (omega (arith, e))
-    go (s₀ ∷ s₁ ∷ []) a b e = absurd (omega (arith, e))
-    go (s₀ ∷ s₁ ∷ s₂ ∷ []) a b e = absurd (omega (arith, e))
-    go (s₀ ∷ s₁ ∷ s₂ ∷ s₃ ∷ []) true true e = (refl, refl)
-    go (s₀ ∷ s₁ ∷ s₂ ∷ s₃ ∷ []) true false e = (refl, refl)
-    go (s₀ ∷ s₁ ∷ s₂ ∷ s₃ ∷ []) false true e = (refl, refl)
-    go (s₀ ∷ s₁ ∷ s₂ ∷ s₃ ∷ []) false false e = (refl, refl)
-    go (s₀ ∷ s₁ ∷ s₂ ∷ s₃ ∷ s₄ ∷ ss) a b e = absurd (omega (arith, e))
+
+    go : (s₀ s₁ s₂ s₃ : SectionRecord) (a b : Bool) → Back (s₀ ∷ s₁ ∷ s₂ ∷ s₃ ∷ []) a b
+    go s₀ s₁ s₂ s₃ true true = (refl, refl)
+    go s₀ s₁ s₂ s₃ true false = (refl, refl)
+    go s₀ s₁ s₂ s₃ false true = (refl, refl)
+    go s₀ s₁ s₂ s₃ false false = (refl, refl)
 
 pub cascade-read-back : ReadBack cascadeKind
 unfolding cascadeAt next moved clearedCascade

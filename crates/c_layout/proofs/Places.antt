@@ -9,6 +9,7 @@ use lib.Seq.{take-at}
 use lib.Ieee.{Float}
 use Rattle.lists.specs.Lists.{spliced}
 use Rattle.lists.proofs.Overwriting.{set-all}
+use Rattle.lists.proofs.Places.{four-places}
 use Rattle.lists.proofs.Splices.{spliced-more, sets-spliced}
 use Rattle.sections.specs.View.{sectionView}
 use Rattle.sections.specs.declared.section.Section.{Section}
@@ -47,12 +48,7 @@ sections-numbers : (ss : List Section) (s : Section) → length ss ≡ 4
     ++ sectionNumbers (sectionView (getD ss 3 s))
     ≡ sectionsNumbers (map sectionView ss)
 unfolding sectionsNumbers
-sections-numbers [] s h = absurd (omega arith)
-sections-numbers (a ∷ []) s h = absurd (omega arith)
-sections-numbers (a ∷ b ∷ []) s h = absurd (omega arith)
-sections-numbers (a ∷ b ∷ c ∷ []) s h = absurd (omega arith)
-sections-numbers (a ∷ b ∷ c ∷ d ∷ []) s h = refl
-sections-numbers (a ∷ b ∷ c ∷ d ∷ e ∷ ss) s h = absurd (omega arith)
+sections-numbers ss s h = ap (λ (l : List Section). sectionsNumbers (map sectionView l)) (four-places ss s h)
 
 pub sections-written : (l : List Float) (ss : List Section) (s : Section) {l₁ l₂ l₃ l₄ : List Float} → length l ≡ 32 → length ss ≡ 4
     → l₁ ≡ spliced l 0 (sectionNumbers (sectionView (getD ss 0 s))) → l₂ ≡ spliced l₁ 7 (sectionNumbers (sectionView (getD ss 1 s))) → l₃

@@ -237,7 +237,7 @@ impl Cascade {
     fn skewable(self, input: &[f64]) -> bool
         ensures { λ r. ⌜ (r ≡ true → Skewable (cascadeView self) (now (input .entry))) ⌝ }
     {
-        if self.count != 4 {
+        if self.count != Cascade::MAX_SECTIONS {
             return false;
         }
         if self.has_first {

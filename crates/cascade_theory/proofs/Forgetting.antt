@@ -1,7 +1,7 @@
 -- The forgetting rule of a cascade, at every format: values, then marks, then what a reset leaves.
 use mathlib.Core.Path.{_≡_, refl, sym, ap, ap₂, _∙_}
 use mathlib.Core.Bool.{Bool, true, false, not, _||_, cond, or-comm, or-false, false≢true}
-use mathlib.Core.List.{List, [], _∷_, _++_, map, reverse, reverse-cons}
+use mathlib.Core.List.{List, [], _∷_, _++_, map, map-map, reverse, reverse-cons}
 use Prim.Native.Nat.{ℕ, zero, suc}
 use native.Mathlib.Omega.{arith}
 use lib.Ieee.{Float, Format}
@@ -26,25 +26,13 @@ idle g = record { sections = map sectionOf (g .sections); count = g .count; firs
 
 -- ---- a reset leaves that record
 
-cleared-sections : (ss : List SectionRecord) → map clearedSection ss ≡ map sectionOf (map sectionCoefficients ss)
-cleared-sections [] = refl
-cleared-sections (s ∷ ss) = ap (λ (l : List SectionRecord). clearedSection s ∷ l) (cleared-sections ss)
-
 cleared-idle : (c : CascadeRecord) → clearedCascade c ≡ idle (coefficientsOf c)
 unfolding clearedCascade idle
-cleared-idle c = rw (cleared-sections (c .sections))
-
-cleared-twice : (ss : List SectionRecord) → map clearedSection (map clearedSection ss) ≡ map clearedSection ss
-cleared-twice [] = refl
-cleared-twice (s ∷ ss) = ap (λ (l : List SectionRecord). clearedSection s ∷ l) (cleared-twice ss)
-
-same-coefficients : (ss : List SectionRecord) → map sectionCoefficients (map clearedSection ss) ≡ map sectionCoefficients ss
-same-coefficients [] = refl
-same-coefficients (s ∷ ss) = ap (λ (l : List SectionCoefficients). sectionCoefficients s ∷ l) (same-coefficients ss)
+cleared-idle c = rw (map-map sectionOf sectionCoefficients (c .sections))
 
 fed-cleared : (c : CascadeRecord) → coefficientsOf (clearedCascade c) ≡ coefficientsOf c
 unfolding clearedCascade
-fed-cleared c = rw (same-coefficients (c .sections))
+fed-cleared c = rw (map-map sectionCoefficients clearedSection (c .sections))
 
 check-cleared : (c : CascadeRecord) → checkCascade c ≡ true → checkCascade (clearedCascade c) ≡ true
 unfolding checkCascade clearedCascade
@@ -54,7 +42,8 @@ module _ (f : Format) where
   -- an accepted reset returns a fresh record
   pub reset-makes-fresh : (c : CascadeRecord) → reset (cascade f) c .refusal ≡ 0 → Fresh (cascade f) (reset (cascade f) c .state)
   unfolding clearedCascade
-  reset-makes-fresh c = reset-fresh (cascade f) c (λ e. omega arith) (λ h. record { checked = check-cleared c h; cleared = rw (cleared-twice (c .sections)) })
+  reset-makes-fresh c = reset-fresh (cascade f) c (λ e. omega arith)
+      (λ h. record { checked = check-cleared c h; cleared = rw (map-map clearedSection clearedSection (c .sections)) })
 
   -- ---- a sample leaves the coefficients
 

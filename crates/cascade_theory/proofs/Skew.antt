@@ -10,19 +10,16 @@ use lib.Ieee.{Float, Format, nan}
 use borrow.Author.Tests.{le-leb, le-ltb}
 use Rattle.runs.specs.Runs.{Block, block}
 use Rattle.runs.proofs.Laws.{Running, run-start, run-turn, run-done}
-use Rattle.cascade_theory.specs.Section.{SectionRecord, sectionOut, sectionNext}
+use Rattle.cascade_theory.specs.Section.{SectionRecord}
 use Rattle.cascade_theory.specs.Skew.{FourRecord, LineRecord, DrainedRecord, fourOut, fourNext, four, filled, lineOut, advanced, drained, ran}
+use Rattle.cascade_theory.proofs.Turns.{Turned}
 
 -- what a section makes of a number, and of itself
-pub record Went (f : Format) (s : SectionRecord) (x y : Float) (t : SectionRecord) : Type 0 where
-  pub out : y ≡ sectionOut f s x
-  pub next : t ≡ sectionNext f s x
+abbrev Went : Format → SectionRecord → Float → Float → SectionRecord → Type 0
+Went f = Turned f true
 
 module _ (f : Format) where
   -- ---- numbers through sections, by name
-
-  pub went : {s t : SectionRecord} {x y : Float} → (y ≡ sectionOut f s x) × (t ≡ sectionNext f s x) → Went f s x y t
-  went p = record { out = p .0; next = p .1 }
 
   pub filled-is : {s0 s1 s2 s3 a0 a1 a2 b0 b1 c0 : SectionRecord} {x0 x1 x2 u0 u1 u2 v0 v1 w0 : Float} → Went f s0 x0 u0 a0 → Went f a0 x1 u1 a1
       → Went f a1 x2 u2 a2 → Went f s1 u0 v0 b0 → Went f b0 u1 v1 b1

@@ -1,6 +1,6 @@
 -- A block that can run skewed is a run of its four sections: no sample clouds it, so a step does what the four sections do, and nothing else.
 use mathlib.Core.Path.{_≡_, refl, ap, _∙_}
-use mathlib.Core.Bool.{Bool, true, false, not, _||_, true≢false}
+use mathlib.Core.Bool.{Bool, true, false, not}
 use mathlib.Core.List.{List, [], _∷_}
 use Prim.Native.Nat.{ℕ, _≤_}
 use native.Mathlib.Nat.{zero-add}
@@ -8,6 +8,8 @@ use lib.ListN.{length}
 use lib.Ieee.{Float, Format}
 use lib.Ieee.Scale.{finite}
 use borrow.Author.Tests.{le-leb, le-ltb}
+use Rattle.lists.proofs.Tests.{neither}
+use Rattle.limits.specs.Limits.{maxSections}
 use Rattle.runs.specs.Runs.{Answer, clear, cloudedIn, written, notAllFinite, step, answers, after, block}
 use Rattle.cascade_theory.specs.Section.{SectionRecord}
 use Rattle.cascade_theory.specs.FirstOrder.{FirstOrderRecord}
@@ -17,14 +19,10 @@ use Rattle.cascade_theory.specs.Skewed.{listed, Skewable}
 
 -- a cascade of these sections alone, with this unused first-order part
 abbrev ofFour : FirstOrderRecord → FourRecord → CascadeRecord
-ofFour p c = record { sections = listed c; count = 4; first = p; hasFirst = false; clouded = false }
-
-not-or : (a b : Bool) → (not a || b) ≡ false → (a ≡ true) × (b ≡ false)
-not-or true b e = (refl, e)
-not-or false b e = absurd (true≢false e)
+ofFour p c = record { sections = listed c; count = maxSections; first = p; hasFirst = false; clouded = false }
 
 module _ (f : Format) (p : FirstOrderRecord) where
-  step-four : (c : FourRecord) (x : Float) → finite x ≡ true → step (cascade f) (ofFour p c) x
+  step-four : (c : FourRecord) (x : Float) → not (finite x) ≡ false → step (cascade f) (ofFour p c) x
       ≡ record { answer = clear (fourOut f c x); state = ofFour p (fourNext f c x) }
   unfolding step checkCascade value moved mark next clouding fourOut fourNext
   step-four c x h = rw h
@@ -32,13 +30,13 @@ module _ (f : Format) (p : FirstOrderRecord) where
   answers-four : (c : FourRecord) (xs : List Float) → notAllFinite xs ≡ false → answers (cascade f) (ofFour p c) xs ≡ answers (four f) c xs
   unfolding answers notAllFinite step
   answers-four c [] h = refl
-  answers-four c (x ∷ xs) h = let e = not-or (finite x) (notAllFinite xs) h in
+  answers-four c (x ∷ xs) h = let e = neither (not (finite x)) (notAllFinite xs) h in
       rw (step-four c x (e .0)) (ap (λ (l : List Answer). clear (fourOut f c x) ∷ l) (answers-four (fourNext f c x) xs (e .1)))
 
   after-four : (c : FourRecord) (xs : List Float) → notAllFinite xs ≡ false → after (cascade f) (ofFour p c) xs ≡ ofFour p (after (four f) c xs)
   unfolding after notAllFinite step
   after-four c [] h = refl
-  after-four c (x ∷ xs) h = let e = not-or (finite x) (notAllFinite xs) h in rw (step-four c x (e .0)) (after-four (fourNext f c x) xs (e .1))
+  after-four c (x ∷ xs) h = let e = neither (not (finite x)) (notAllFinite xs) h in rw (step-four c x (e .0)) (after-four (fourNext f c x) xs (e .1))
 
   none-clouded : (c : FourRecord) (xs : List Float) → cloudedIn (answers (four f) c xs) ≡ 0
   unfolding answers cloudedIn step

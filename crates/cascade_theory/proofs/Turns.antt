@@ -1,5 +1,5 @@
 -- Four turns, each through its section where that is used, are a pass through the first n sections.
-use mathlib.Core.Path.{_≡_, refl}
+use mathlib.Core.Path.{_≡_, ap}
 use mathlib.Core.Bool.{Bool, cond}
 use mathlib.Core.List.{List, [], _∷_, map}
 use Prim.Native.Nat.{ℕ, zero, suc}
@@ -8,6 +8,8 @@ use lib.Dec.{ltb}
 use lib.ListN.{length, getD}
 use lib.Ieee.{Float, Format}
 use borrow.Author.Tests.{lt-ltb}
+use Rattle.lists.proofs.Places.{four-places}
+use Rattle.limits.specs.Limits.{maxSections}
 use Rattle.cascade_theory.specs.Section.{SectionRecord, sectionOut, sectionNext}
 use Rattle.cascade_theory.specs.Parts.{sectionsOut, sectionsNext}
 
@@ -15,6 +17,10 @@ use Rattle.cascade_theory.specs.Parts.{sectionsOut, sectionsNext}
 pub record Turned (f : Format) (used : Bool) (s : SectionRecord) (x y : Float) (t : SectionRecord) : Type 0 where
   pub out : y ≡ cond used (sectionOut f s x) x
   pub next : t ≡ cond used (sectionNext f s x) s
+
+pub turned : (f : Format) {used : Bool} {s t : SectionRecord} {x y : Float} → (y ≡ cond used (sectionOut f s x) x) × (t ≡ cond used (sectionNext f s x) s)
+    → Turned f used s x y t
+turned f p = record { out = p .0; next = p .1 }
 
 passed : (f : Format) (a b c d a′ b′ c′ d′ : SectionRecord) (n : ℕ) (x y₀ y₁ y₂ y₃ : Float) → Turned f (ltb 0 n) a x y₀ a′ → Turned f (ltb 1 n) b y₀ y₁ b′
     → Turned f (ltb 2 n) c y₁ y₂ c′
@@ -33,22 +39,12 @@ passed f a b c d a′ b′ c′ d′ (suc (suc (suc (suc (suc n))))) x y₀ y₁
     let t₃ = lt-ltb 3 (suc (suc (suc (suc (suc n))))) (omega arith) in
     (rw (s .out, t₃, r .out, t₂, q .out, t₁, p .out, t₀), rw (s .next, t₃, r .next, t₂, q .next, t₁, p .next, t₀, r .out, t₂, q .out, t₁, p .out, t₀))
 
--- a list of four, place by place
-pub four-places : {A B : Type 0} (view : A → B) (ss : List A) (u : A) → length ss ≡ 4
-    → view (getD ss 0 u) ∷ view (getD ss 1 u) ∷ view (getD ss 2 u) ∷ view (getD ss 3 u) ∷ [] ≡ map view ss
-four-places view [] u l = absurd (omega arith)
-four-places view (s₀ ∷ []) u l = absurd (omega arith)
-four-places view (s₀ ∷ s₁ ∷ []) u l = absurd (omega arith)
-four-places view (s₀ ∷ s₁ ∷ s₂ ∷ []) u l = absurd (omega arith)
-four-places view (s₀ ∷ s₁ ∷ s₂ ∷ s₃ ∷ []) u l = refl
-four-places view (s₀ ∷ s₁ ∷ s₂ ∷ s₃ ∷ s₄ ∷ ss) u l = absurd (omega arith)
-
 -- whatever record the code has for a section
 pub four-turns : (f : Format) {A : Type 0} (view : A → SectionRecord) (ss : List A) (u : A) (n : ℕ) (x : Float) {y₀ y₁ y₂ y₃ : Float} {a b c d : A} → length ss
-    ≡ 4
+    ≡ maxSections
     → Turned f (ltb 0 n) (view (getD ss 0 u)) x y₀ (view a) → Turned f (ltb 1 n) (view (getD ss 1 u)) y₀ y₁ (view b)
     → Turned f (ltb 2 n) (view (getD ss 2 u)) y₁ y₂ (view c)
     → Turned f (ltb 3 n) (view (getD ss 3 u)) y₂ y₃ (view d)
     → (y₃ ≡ sectionsOut f n (map view ss) x) × (map view (a ∷ b ∷ c ∷ d ∷ []) ≡ sectionsNext f n (map view ss) x)
 four-turns f view ss u n x {y₀} {y₁} {y₂} {y₃} {a} {b} {c} {d} l p q r s =
-    rw (← four-places view ss u l) (passed f _ _ _ _ (view a) (view b) (view c) (view d) n x y₀ y₁ y₂ y₃ p q r s)
+    rw (← ap (map view) (four-places ss u l)) (passed f _ _ _ _ (view a) (view b) (view c) (view d) n x y₀ y₁ y₂ y₃ p q r s)

@@ -5,6 +5,7 @@ use mathlib.Core.Bool.{false}
 use mathlib.Core.List.{List, [], _∷_}
 use lib.ListN.{length}
 use lib.Ieee.{Float}
+use Rattle.limits.specs.Limits.{maxSections}
 use Rattle.runs.specs.Runs.{notAllFinite}
 use Rattle.cascade_theory.specs.Section.{SectionRecord}
 use Rattle.cascade_theory.specs.Skew.{FourRecord}
@@ -16,7 +17,7 @@ listed c = c .s0 ∷ c .s1 ∷ c .s2 ∷ c .s3 ∷ []
 
 -- four sections and nothing else in use, three samples or more, and no answer Clouded: none so far was, and every sample is finite
 pub record Skewable (c : CascadeRecord) (input : List Float) : Type 0 where
-  pub four : c .count ≡ 4
+  pub four : c .count ≡ maxSections
   pub alone : c .hasFirst ≡ false
   pub clear : c .clouded ≡ false
   pub enough : 3 ≤ length input

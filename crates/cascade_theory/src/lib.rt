@@ -1,2 +1,2 @@
 // The cascade as a filter, over any float format: definitions in specs/, and in proofs/ what follows from them. Nothing runs
-// here: sections, parts, skew and cascade have the code.
+// here: sections, pipeline and cascade have the code.

@@ -1,2 +1,2 @@
--- The tap record of the code, read as the crate fir_step' definitions have it.
+-- The tap record of the code, read as fir_theory's definitions have it.
 pub mod View

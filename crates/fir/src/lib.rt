@@ -53,7 +53,7 @@ impl TapRecord {
     // The most taps that a record holds.
     pub const MAX_TAPS: usize = limits::MAX_TAPS;
 
-    // The largest window code.
+    // The window code of ready-made taps, the largest.
     pub const READY_MADE: u8 = fir_step::READY_MADE as u8;
 
     // What a refused design returns: counts 0, numbers +0.
@@ -92,11 +92,7 @@ impl TapRecord {
         }
         let samples = no_numbers();
         let mut taps = no_numbers();
-        let mut i: usize = 0;
-        while i < length {
-            taps[i] = coeffs[i];
-            i += 1;
-        }
+        lists::copy(coeffs, &mut taps);
         FirDesignResult {
             refusal: 0,
             filter: TapRecord {

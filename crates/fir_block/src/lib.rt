@@ -186,12 +186,23 @@ fn pass_some(
     PassResult { clouded, held }
 }
 
+// What a refused block returns: it counts 0 and leaves the held count.
+fn refused(refusal: u8, held: usize) -> BlockResult
+    ensures { λ r. ⌜ (r .refusal ≡ refusal) × (r .clouded ≡ 0) × (r .held ≡ held) ⌝ }
+{
+    BlockResult {
+        refusal,
+        clouded: 0,
+        held,
+    }
+}
+
 // A block of samples, each as `fir_step::update` has it: the answers in the first places of the output, later places left. An
 // output shorter than the input is refused by 5.
 pub fn block(
     taps: &[f64],
     samples: &mut [f64],
-    n: usize,
+    length: usize,
     held: usize,
     window: usize,
     input: &[f64],
@@ -200,31 +211,23 @@ pub fn block(
     ensures { λ r. ⌜ record {
       refusal = r .refusal;
       clouded = r .clouded;
-      state = lentTaps (now (taps .entry)) (now (samples .exit)) n (r .held) window;
+      state = lentTaps (now (taps .entry)) (now (samples .exit)) length (r .held) window;
       output = now (output .exit);
     }
-        ≡ lentBlock (fir maxTaps binary64) (fits maxTaps) (lentTaps (now (taps .entry)) (now (samples .entry)) n held window) (now (input .entry))
+        ≡ lentBlock (fir maxTaps binary64) (fits maxTaps) (lentTaps (now (taps .entry)) (now (samples .entry)) length held window) (now (input .entry))
         (now (output .entry)) ⌝ }
 {
-    let refusal = fir_step::refusal_of(taps, samples, n, held, window);
+    let refusal = fir_step::refusal_of(taps, samples, length, held, window);
     if refusal != 0 {
-        return BlockResult {
-            refusal,
-            clouded: 0,
-            held,
-        };
+        return refused(refusal, held);
     }
     if output.len() < input.len() {
-        return BlockResult {
-            refusal: runs::SHORT_OUTPUT,
-            clouded: 0,
-            held,
-        };
+        return refused(runs::SHORT_OUTPUT, held);
     }
-    let missing = n - held;
+    let missing = length - held;
     let all = input.len();
     let first = if all < missing { all } else { missing };
-    let front = pass_some(taps, samples, n, held, window, input, first, output);
+    let front = pass_some(taps, samples, length, held, window, input, first, output);
     if all <= first {
         return BlockResult {
             refusal: 0,
@@ -232,7 +235,7 @@ pub fn block(
             held: front.held,
         };
     }
-    let rest = pass_all(taps, samples, n, input, first, output);
+    let rest = pass_all(taps, samples, length, input, first, output);
     BlockResult {
         refusal: 0,
         clouded: front.clouded + rest,

@@ -14,7 +14,7 @@ ghost use Rattle.fir_theory.specs.Lent.{lentTaps, fits};
 use limits::MAX_TAPS;
 use runs::Answer;
 
-// The largest window code.
+// The window code of ready-made taps, the largest.
 pub const READY_MADE: usize = 4;
 
 // What a step answers, and the held count after it.

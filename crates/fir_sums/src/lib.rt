@@ -1,5 +1,5 @@
 // Many outputs of a FIR at once. Each output is its own sum, from tap 0 up; sixteen sums go side by side, and no sum is
-// regrouped.
+// regrouped. They are no part of what is promised.
 ghost use mathlib.Core.Path.{_≡_};
 ghost use Prim.Native.Nat.{_+_, _≤_, _<_};
 ghost use lib.ListN.{length};

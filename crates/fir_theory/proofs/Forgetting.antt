@@ -12,6 +12,7 @@ use lib.ListN.{length, take, length-take, length-replicate}
 use lib.Seq.{take-take, take-nil, length-take-le}
 use lib.Ieee.{Float, Format, add, mul}
 use borrow.Author.Tests.{leb-true}
+use Rattle.lists.proofs.Places.{take-min}
 use Rattle.limits.specs.Zero.{plusZero}
 use Rattle.runs.specs.Runs.{marked, notAllFinite}
 use Rattle.runs.specs.Forgetting.{Call, run}
@@ -22,12 +23,6 @@ use Rattle.fir_theory.specs.Plain.{tapsOf, used, plainFir, FirForgets}
 use Rattle.fir_theory.proofs.Laws.{take-pushed, length-pushed, sizes, check-next, check-cleared, sum-none}
 
 -- ---- lists
-
-take-min : {A : Type 0} (m n : ℕ) (l : List A) → take m (take n l) ≡ take (min m n) l
-take-min zero n l = simp unary-clauses
-take-min (suc m) zero l = simp unary-clauses
-take-min (suc m) (suc n) [] = simp unary-clauses
-take-min (suc m) (suc n) (x ∷ l) = simp unary-clauses (ap (λ t. x ∷ t) (take-min m n l))
 
 newest-more : (n k : ℕ) (x : Float) (xs kept : List Float) → 1 ≤ n → take (min n k) xs ≡ take n kept → take (min n (suc k)) (x ∷ xs) ≡ take n (x ∷ kept)
 newest-more zero k x xs kept h e = simp unary-clauses

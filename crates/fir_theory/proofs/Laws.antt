@@ -6,8 +6,8 @@ use Prim.Native.Nat.{ℕ, _+_, _<_, _≤_, min}
 use native.Mathlib.Numerals.{add-one}
 use native.Mathlib.Omega.{arith}
 use lib.Dec.{leb, eqb}
-use lib.ListN.{length, take, drop, getD, set, length-take, length-append, length-drop, replicate}
-use lib.Seq.{drop-cons, length-take-le, getD-take, take-append-le, take-take}
+use lib.ListN.{length, take, drop, getD, set, length-take, length-append, length-drop, length-replicate, replicate}
+use lib.Seq.{drop-cons, length-take-le, getD-take, take-all, take-append-le, take-take}
 use lib.Ieee.{Float, nan, inf, fin, unlike, Format, add, mul}
 use lib.Ieee.Scale.{finite}
 use borrow.Author.Tests.{leb-true, le-leb, lt-ltb, le-ltb, eq-eqb, ne-eqb, eqb-true}
@@ -17,6 +17,7 @@ use Rattle.runs.specs.Runs.{notAllFinite, marked, Step, Reset}
 use Rattle.runs.specs.Lent.{lentStep, lentReset}
 use Rattle.runs.proofs.Laws.{answer-is, step-answered, reset-done}
 use Rattle.runs.proofs.Lent.{lent-step, lent-reset}
+use Rattle.lists.specs.Copies.{copied}
 use Rattle.lists.proofs.Overwriting.{Overwriting, overwrite-start, overwrite-turn, overwrite-ahead, overwrite-front}
 use Rattle.lists.proofs.Folding.{front-turn, front-done}
 use Rattle.lists.proofs.Places.{drop-replicate}
@@ -215,10 +216,9 @@ module _ (capacity : ℕ) (ts : List Float) where
   unfolding fromCoeffs orderRefused
   made-many h k e = rw (ne-eqb (length ts) 0 (λ z. omega arith), lt-ltb capacity (length ts) k, e)
 
-  pub made : {l s : List Float} (i : ℕ) → 1 ≤ length ts → length ts ≤ capacity → i ≡ length ts → s ≡ zeros capacity
-      → Overwriting (zeros capacity) 0 ts (length ts) l i
+  pub made : {l s : List Float} → 1 ≤ length ts → length ts ≤ capacity → s ≡ zeros capacity → l ≡ copied ts (zeros capacity)
       → _≡_ {A = Made} (record { refusal = Accepted; filter = record { taps = l; samples = s; length = length ts; held = 0; window = ReadyMade } })
       (fromCoeffs capacity ts)
-  unfolding fromCoeffs orderRefused holding
-  made i h k ei es p =
-      rw (ne-eqb (length ts) 0 (λ z. omega arith), le-ltb capacity (length ts) k, overwrite-front i (omega arith) p, es, drop-replicate)
+  unfolding fromCoeffs orderRefused holding copied
+  made h k es e =
+      rw (ne-eqb (length ts) 0 (λ z. omega arith), le-ltb capacity (length ts) k, e, es, length-replicate, take-all capacity ts k, drop-replicate)

@@ -8,11 +8,11 @@ use native.Mathlib.Numerals.{add-one}
 use native.Mathlib.Omega.{arith}
 use lib.Dec.{leb}
 use borrow.Author.Tests.{le-leb, lt-leb}
-use lib.ListN.{length, getD, take-append-drop}
+use lib.ListN.{length, getD}
 use lib.Ieee.{Float, nan, Format, add, mul}
 use Rattle.fir_theory.specs.Convolution.{sumAt, sumsFrom, scaled, convolvable, convolved}
 use Rattle.lists.specs.Lists.{spliced}
-use Rattle.lists.proofs.Splices.{spliced-length, spliced-more}
+use Rattle.lists.proofs.Splices.{spliced-none, spliced-length, spliced-more}
 
 -- ---- one tap's products
 pub scaled-length : (f : Format) (sums : List Float) (t : Float) (x : List Float) (k : ℕ) → length (scaled f sums t x k) ≡ length sums
@@ -82,8 +82,8 @@ module _ (f : Format) (taps : List Float) (n : ℕ) (x : List Float) (at : ℕ) 
     pub places : output ≡ spliced output₀ to (sumsFrom f taps n x at j)
 
   pub out-start : Outputting output₀ 0
-  unfolding spliced sumsFrom
-  out-start = record { within = omega arith; same = refl; places = rw add-zero (sym (take-append-drop to output₀)) }
+  unfolding sumsFrom
+  out-start = record { within = omega arith; same = refl; places = sym (spliced-none output₀ to) }
 
   -- d sums more behind them
   pub out-turn : {output after ys : List Float} {j : ℕ} (d : ℕ) → j + d ≤ m → to + m ≤ length output₀ → ys ≡ sumsFrom f taps n x (at + j) d → after

@@ -8,7 +8,7 @@ use lib.Ieee.{Float}
 use Rattle.fir_theory.specs.Fir.{TapsRecord}
 
 abbrev pub lentTaps : List Float → List Float → ℕ → ℕ → ℕ → TapsRecord
-lentTaps taps samples n held window = record { taps = taps; samples = samples; length = n; held = held; window = window }
+lentTaps taps samples length held window = record { taps = taps; samples = samples; length = length; held = held; window = window }
 
 -- whether the slices fit the record: each has as many places as the capacity
 unfoldable pub fits : ℕ → TapsRecord → Bool

@@ -1,14 +1,14 @@
--- A list by its places: its length and elements; and the rest of a list of equals.
+-- A list by its places: its length and elements; the rest of a list of equals; a part of a list; and a list of four.
 use mathlib.Core.Path.{_≡_, refl, ap, _∙_}
 use mathlib.Core.Bool.{Bool, true, false}
 use mathlib.Core.List.{List, [], _∷_, _++_, map}
-use Prim.Native.Nat.{ℕ, zero, suc, _+_, _-_, _<_}
+use Prim.Native.Nat.{ℕ, zero, suc, _+_, _-_, _<_, _≤_, min}
 use native.Mathlib.Nat.{sub-zero, zero-sub, suc-sub-suc}
-use native.Mathlib.Numerals.{add-one}
+use native.Mathlib.Numerals.{add-one, unary-clauses}
 use native.Mathlib.Omega.{arith}
 use lib.Dec.{ltb}
-use lib.ListN.{length, getD, set, drop, replicate, length-append, List·getD-append}
-use lib.Seq.{getD-at}
+use lib.ListN.{length, getD, set, take, drop, replicate, length-append, length-take, length-drop, List·getD-append}
+use lib.Seq.{getD-at, getD-take, getD-drop}
 use borrow.Author.Tests.{ltb-true, ltb-false}
 use Rattle.lists.specs.Lists.{upTo}
 
@@ -37,3 +37,26 @@ pub map-set : {A B : Type 0} (g : A → B) (l : List A) (i : ℕ) (a : A) → ma
 map-set g [] i a = refl
 map-set g (x ∷ l) zero a = refl
 map-set g (x ∷ l) (suc i) a = ap (λ (t : List _). g x ∷ t) (map-set g l i a)
+
+-- ---- a part of a list
+module _ {A : Type 0} (x : List A) (from m : ℕ) where
+  pub part-length : from + m ≤ length x → length (take m (drop from x)) ≡ m
+  part-length h = simp (length-take, length-drop) (omega arith)
+
+  pub part-at : (j : ℕ) (d : A) → j < m → getD (take m (drop from x)) j d ≡ getD x (from + j) d
+  part-at j d h = getD-take m (drop from x) j d h ∙ getD-drop from x j d
+
+pub take-min : {A : Type 0} (m n : ℕ) (l : List A) → take m (take n l) ≡ take (min m n) l
+take-min zero n l = simp unary-clauses
+take-min (suc m) zero l = simp unary-clauses
+take-min (suc m) (suc n) [] = simp unary-clauses
+take-min (suc m) (suc n) (x ∷ l) = simp unary-clauses (ap (λ t. x ∷ t) (take-min m n l))
+
+-- ---- a list of four
+pub four-places : {A : Type 0} (l : List A) (d : A) → length l ≡ 4 → getD l 0 d ∷ getD l 1 d ∷ getD l 2 d ∷ getD l 3 d ∷ [] ≡ l
+four-places [] d h = absurd (omega arith)
+four-places (a ∷ []) d h = absurd (omega arith)
+four-places (a ∷ b ∷ []) d h = absurd (omega arith)
+four-places (a ∷ b ∷ c ∷ []) d h = absurd (omega arith)
+four-places (a ∷ b ∷ c ∷ e ∷ []) d h = refl
+four-places (a ∷ b ∷ c ∷ e ∷ f ∷ l) d h = absurd (omega arith)

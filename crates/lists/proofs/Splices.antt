@@ -1,9 +1,10 @@
--- Numbers put into a list: its length, and more behind them.
+-- Numbers put into a list: its length, none, and more behind them.
 use mathlib.Core.Path.{_≡_, sym, ap, _∙_}
-use mathlib.Core.List.{List, _++_, append-assoc}
+use mathlib.Core.List.{List, [], _++_, append-assoc}
 use Prim.Native.Nat.{ℕ, _+_, _≤_}
+use native.Mathlib.Nat.{add-zero}
 use native.Mathlib.Omega.{arith}
-use lib.ListN.{length, take, drop, length-append, length-take, length-drop}
+use lib.ListN.{length, take, drop, length-append, length-take, length-drop, take-append-drop}
 use lib.Seq.{drop-drop, take-at, drop-at, sets, sets-eq}
 use lib.Ieee.{Float}
 use Rattle.lists.specs.Lists.{spliced}
@@ -11,6 +12,10 @@ use Rattle.lists.specs.Lists.{spliced}
 pub spliced-length : (output : List Float) (to : ℕ) (ys : List Float) → to + length ys ≤ length output → length (spliced output to ys) ≡ length output
 unfolding spliced
 spliced-length output to ys h = simp (length-append, length-take, length-drop) (omega arith)
+
+pub spliced-none : (output : List Float) (to : ℕ) → spliced output to [] ≡ output
+unfolding spliced
+spliced-none output to = rw add-zero (take-append-drop to output)
 
 -- stores one after the other
 pub sets-spliced : (vs l : List Float) (k : ℕ) → k + length vs ≤ length l → sets l k vs ≡ spliced l k vs

@@ -1,4 +1,4 @@
--- The code's types at f64, read field by field as the records of these definitions.
+-- The code's types at f64, read field by field as the records of cascade_theory. They are no part of what is promised.
 use mathlib.Core.List.{List}
 use lib.Ieee.{Float}
 use Rattle.sections.specs.View.{sectionView}

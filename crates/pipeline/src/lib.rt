@@ -1,5 +1,6 @@
 // Four sections in a row over a block of samples, skewed: each section works one sample behind the section before it, so
-// that none waits for another within a turn. Operations and answers are those of one sample after the other.
+// that none waits for another within a turn. Operations and answers are those of one sample after the other. It is no part
+// of what is promised.
 ghost use mathlib.Core.Path.{_≡_};
 ghost use lib.Ieee.{binary64};
 ghost use Rattle.cascade_theory.specs.Skew.{filled, lineOut, advanced, drained, ran};

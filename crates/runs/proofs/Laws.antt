@@ -1,15 +1,17 @@
 -- Laws of a step, a reset and a block, for any filter: what a function shows where it returns, and the loop of a block; and of refusal 1.
 use mathlib.Core.Path.{_≡_, refl, sym, ap, ap₂, _∙_}
-use mathlib.Core.Bool.{Bool, true, false, _||_, cond, true≢false}
-use mathlib.Core.List.{List, [], _∷_, _++_, append-assoc}
+use mathlib.Core.Bool.{Bool, true, false, cond, true≢false}
+use mathlib.Core.List.{List, [], _∷_, _++_, append-assoc, append-nil}
 use Prim.Native.Nat.{ℕ, zero, suc, _+_, _<_, _≤_}
 use native.Mathlib.Nat.{zero-lt-suc, zero-add, add-zero}
 use native.Mathlib.Numerals.{add-one}
 use native.Mathlib.Omega.{arith}
 use lib.Dec.{eqb, ltb}
 use lib.ListN.{length, getD, set, take, drop, length-set, length-append, length-take, length-drop, take-append-drop, drop-of-length-le}
-use lib.Seq.{drop-cons, take-suc-set, drop-set-lt, drop-drop, take-at, drop-at}
+use lib.Seq.{drop-cons, take-suc-set, drop-set-lt, drop-drop, length-take-le, take-at, drop-at}
 use borrow.Author.Tests.{ltb-false, lt-ltb, le-ltb}
+use Rattle.lists.proofs.Places.{part-length}
+use Rattle.lists.proofs.Tests.{neither}
 use Rattle.runs.specs.Refusals.{orderRefused, ShortOutput}
 use lib.Ieee.{Float, nan}
 use Rattle.runs.specs.Runs.{Answer, Step, refused, marked, isClouded, numberOf, refusalOf, cloudedIn, placed, written, Filter, Reset, Block, refusedBlock}
@@ -97,91 +99,6 @@ reset-fresh F s numbered fresh = go (F .check s) refl
     go true e r = fresh e
     go false e r = absurd (numbered r)
 
--- ---- the loop of a block
-
--- a count with one more where the mark is set
-abbrev pub tallied : Bool → ℕ → ℕ
-tallied b n = cond b (n + 1) n
-
--- the loop of a block before sample i, whose answers so far stand in the output: what is left to do does the rest of the block
-pub record Running (F : Filter) (s₀ : F .State) (input output₀ : List Float) (s : F .State) (output : List Float) (clouded i : ℕ) : Type 0 where
-  pub within : i ≤ length input
-  pub room : length input ≤ length output
-  pub few : clouded ≤ i
-  pub good : F .check s ≡ true
-  pub state : after F s (drop i input) ≡ after F s₀ input
-  pub count : clouded + cloudedIn (answers F s (drop i input)) ≡ cloudedIn (answers F s₀ input)
-  pub places : take i output ++ written (answers F s (drop i input)) (drop i output) ≡ written (answers F s₀ input) output₀
-  pub same : length output ≡ length output₀
-
-tallied-few : (b : Bool) (n i : ℕ) → n ≤ i → tallied b n ≤ i + 1
-tallied-few true n i h = omega arith
-tallied-few false n i h = omega arith
-
-tallied-more : (b : Bool) (y : Float) (n m : ℕ) → tallied b n + m ≡ n + (cond (isClouded (marked b y)) 1 0 + m)
-tallied-more true y n m = omega arith
-tallied-more false y n m = omega arith
-
-module _ (F : Filter) (keeps : (s : F .State) (x : Float) → F .check s ≡ true → F .check (F .next s x) ≡ true) (s₀ : F .State) (input output₀ : List Float)
-  where
-    pub run-start : length input ≤ length output₀ → F .check s₀ ≡ true → Running F s₀ input output₀ s₀ output₀ 0 0
-    run-start h e = record {
-      within = omega arith;
-      room = h;
-      few = omega arith;
-      good = e;
-      state = refl;
-      count = rw zero-add;
-      places = refl;
-      same = refl;
-    }
-
-    -- one sample: y is its number and b its mark
-    pub run-turn : {s s′ : F .State} {output : List Float} {clouded clouded′ i : ℕ} {y : Float} {b : Bool} → i < length input
-        → y ≡ F .value s (getD input i nan) → b ≡ F .mark s (getD input i nan) → s′ ≡ F .next s (getD input i nan) → clouded′ ≡ tallied b clouded
-        → Running F s₀ input output₀ s output clouded i → Running F s₀ input output₀ s′ (set output i y) clouded′ (i + 1)
-    unfolding cloudedIn written
-    run-turn {s} {s′} {output} {clouded} {clouded′} {i} {y} {b} h ey eb es ec p =
-        let x = getD input i nan in
-        let k : i < length output = omega (arith, p .room) in
-        let d = drop-cons input i nan h in
-        let o = drop-cons output i nan k in
-        let a = answers-cons F s x (drop (suc i) input) (p .good) in
-        record {
-          within = omega arith;
-          room = rw length-set (p .room);
-          few = rw ec (tallied-few b clouded i (p .few));
-          good = rw es (keeps s x (p .good));
-          state = rw (es, add-one) (sym (after-cons F s x (drop (suc i) input) (p .good)) ∙ (rw d at (p .state)));
-          count = rw (ec, es, add-one i) (tallied-more b y clouded (cloudedIn (answers F (F .next s x) (drop (suc i) input)))
-              ∙ (rw (d, a, ← eb, ← ey) at (p .count)));
-          places = rw (es, add-one, take-suc-set output i y k, drop-set-lt (suc i) output i y (omega arith), append-assoc)
-              (rw (d, o, a, ← eb, ← ey, placed-marked) at (p .places));
-          same = rw length-set (p .same);
-        }
-
-    pub run-done : {s : F .State} {output : List Float} {clouded i : ℕ} → length input ≤ i → F .check s₀ ≡ true → length input ≤ length output₀
-        → Running F s₀ input output₀ s output clouded i → _≡_ {A = Block
-        (F .State)} (record { refusal = 0; clouded = clouded; state = s; output = output }) (block F s₀ input output₀)
-    unfolding answers after cloudedIn written block
-    run-done {s} {output} {clouded} {i} h e k p =
-        let z = drop-of-length-le input {i = i} h in
-        let l : s ≡ after F s₀ input = rw z at (p .state) in
-        let m : clouded ≡ cloudedIn (answers F s₀ input) = sym (add-zero clouded) ∙ (rw z at (p .count)) in
-        let o : output ≡ written (answers F s₀ input) output₀ = sym (take-append-drop i output) ∙ (rw z at (p .places)) in
-        rw (e, le-ltb (length output₀) (length input) k, ← l, ← m, ← o)
-
--- what a step of a good record returns, part by part
-pub step-parts : (F : Filter) (s : F .State) (x : Float) {a : Answer} {s′ : F .State} → F .check s ≡ true → record { answer = a; state = s′ } ≡ step F s x
-    → (numberOf a ≡ F .value s x) × (isClouded a ≡ F .mark s x) × (s′ ≡ F .next s x)
-step-parts F s x {a} {s′} h e =
-    let p = e ∙ step-is F s x h in
-    let q : a ≡ answer F s x = ap (λ (z : Step (F .State)). z .answer) p in (
-      ap numberOf q ∙ number-marked (F .mark s x) (F .value s x),
-      ap isClouded q ∙ clouded-marked (F .mark s x) (F .value s x),
-      ap (λ (z : Step (F .State)). z .state) p,
-    )
-
 -- ---- single steps over an input, of any record: sample i is next, and the answers so far stand in the output
 pub record Stepping (F : Filter) (s₀ : F .State) (input output₀ : List Float) (s : F .State) (output : List Float) (i : ℕ) : Type 0 where
   pub same : length output ≡ length output₀
@@ -210,15 +127,99 @@ module _ (F : Filter) (s₀ : F .State) (input output₀ : List Float) where
       let z = drop-of-length-le input {i = i} h in
       sym (take-append-drop i output) ∙ (rw z at (p .places))
 
+-- ---- the loop of a block
+
+-- a count with one more where the mark is set
+abbrev pub tallied : Bool → ℕ → ℕ
+tallied b n = cond b (n + 1) n
+
+-- the loop of a block before sample i, whose answers so far stand in the output: what is left to do does the rest of the block
+pub record Running (F : Filter) (s₀ : F .State) (input output₀ : List Float) (s : F .State) (output : List Float) (clouded i : ℕ) : Type 0 where
+  pub within : i ≤ length input
+  pub room : length input ≤ length output
+  pub few : clouded ≤ i
+  pub good : F .check s ≡ true
+  pub state : after F s (drop i input) ≡ after F s₀ input
+  pub count : clouded + cloudedIn (answers F s (drop i input)) ≡ cloudedIn (answers F s₀ input)
+  pub places : take i output ++ written (answers F s (drop i input)) (drop i output) ≡ written (answers F s₀ input) output₀
+  pub same : length output ≡ length output₀
+
+steps-of : {F : Filter} {s₀ s : F .State} {input output₀ output : List Float} {clouded i : ℕ} → Running F s₀ input output₀ s output clouded i
+    → Stepping F s₀ input output₀ s output i
+steps-of p = record { same = p .same; places = p .places }
+
+tallied-few : (b : Bool) (n i : ℕ) → n ≤ i → tallied b n ≤ i + 1
+tallied-few true n i h = omega arith
+tallied-few false n i h = omega arith
+
+tallied-more : (b : Bool) (y : Float) (n m : ℕ) → tallied b n + m ≡ n + (cond (isClouded (marked b y)) 1 0 + m)
+tallied-more true y n m = omega arith
+tallied-more false y n m = omega arith
+
+module _ (F : Filter) (keeps : (s : F .State) (x : Float) → F .check s ≡ true → F .check (F .next s x) ≡ true) (s₀ : F .State) (input output₀ : List Float)
+  where
+    pub run-start : length input ≤ length output₀ → F .check s₀ ≡ true → Running F s₀ input output₀ s₀ output₀ 0 0
+    run-start h e = record {
+      within = omega arith;
+      room = h;
+      few = omega arith;
+      good = e;
+      state = refl;
+      count = rw zero-add;
+      places = refl;
+      same = refl;
+    }
+
+    -- one sample: y is its number and b its mark
+    pub run-turn : {s s′ : F .State} {output : List Float} {clouded clouded′ i : ℕ} {y : Float} {b : Bool} → i < length input
+        → y ≡ F .value s (getD input i nan) → b ≡ F .mark s (getD input i nan) → s′ ≡ F .next s (getD input i nan) → clouded′ ≡ tallied b clouded
+        → Running F s₀ input output₀ s output clouded i → Running F s₀ input output₀ s′ (set output i y) clouded′ (i + 1)
+    unfolding cloudedIn
+    run-turn {s} {s′} {output} {clouded} {clouded′} {i} {y} {b} h ey eb es ec p =
+        let x = getD input i nan in
+        let d = drop-cons input i nan h in
+        let q : Stepping F s₀ input output₀ s′ (set output i y) (i + 1) =
+        steps-turn F s₀ input output₀ h (omega (arith, p .room)) (step-answered F s x (p .good) refl es) (rw placed-marked ey) (steps-of p) in
+        let a = answers-cons F s x (drop (suc i) input) (p .good) in
+        record {
+          within = omega arith;
+          room = rw length-set (p .room);
+          few = rw ec (tallied-few b clouded i (p .few));
+          good = rw es (keeps s x (p .good));
+          state = rw (es, add-one) (sym (after-cons F s x (drop (suc i) input) (p .good)) ∙ (rw d at (p .state)));
+          count = rw (ec, es, add-one i) (tallied-more b y clouded (cloudedIn (answers F (F .next s x) (drop (suc i) input)))
+              ∙ (rw (d, a, ← eb, ← ey) at (p .count)));
+          places = q .places;
+          same = q .same;
+        }
+
+    pub run-done : {s : F .State} {output : List Float} {clouded i : ℕ} → length input ≤ i → F .check s₀ ≡ true → length input ≤ length output₀
+        → Running F s₀ input output₀ s output clouded i → _≡_ {A = Block
+        (F .State)} (record { refusal = 0; clouded = clouded; state = s; output = output }) (block F s₀ input output₀)
+    unfolding answers after cloudedIn block
+    run-done {s} {output} {clouded} {i} h e k p =
+        let z = drop-of-length-le input {i = i} h in
+        let l : s ≡ after F s₀ input = rw z at (p .state) in
+        let m : clouded ≡ cloudedIn (answers F s₀ input) = sym (add-zero clouded) ∙ (rw z at (p .count)) in
+        let o = steps-done F s₀ input output₀ h (steps-of p) in
+        rw (e, le-ltb (length output₀) (length input) k, ← l, ← m, ← o)
+
+-- what a step of a good record returns, part by part
+pub step-parts : (F : Filter) (s : F .State) (x : Float) {a : Answer} {s′ : F .State} → F .check s ≡ true → record { answer = a; state = s′ } ≡ step F s x
+    → (numberOf a ≡ F .value s x) × (isClouded a ≡ F .mark s x) × (s′ ≡ F .next s x)
+step-parts F s x {a} {s′} h e =
+    let p = e ∙ step-is F s x h in
+    let q : a ≡ answer F s x = ap (λ (z : Step (F .State)). z .answer) p in (
+      ap numberOf q ∙ number-marked (F .mark s x) (F .value s x),
+      ap isClouded q ∙ clouded-marked (F .mark s x) (F .value s x),
+      ap (λ (z : Step (F .State)). z .state) p,
+    )
+
 -- an order, or a number of taps, that is not refused
 pub good-order : (n most : ℕ) → orderRefused n most ≡ false → (0 < n) × (n ≤ most)
 unfolding orderRefused
 good-order zero most e = absurd (true≢false e)
-good-order (suc n) most e = (zero-lt-suc n, ltb-false most (suc n) (either-no (eqb (suc n) 0) (ltb most (suc n)) e))
-  where
-    either-no : (a b : Bool) → (a || b) ≡ false → b ≡ false
-    either-no true b e = absurd (true≢false e)
-    either-no false b e = e
+good-order (suc n) most e = (zero-lt-suc n, ltb-false most (suc n) (neither (eqb (suc n) 0) (ltb most (suc n)) e .1))
 
 -- ---- a block in two parts
 module _ (F : Filter) (keeps : (s : F .State) (x : Float) → F .check s ≡ true → F .check (F .next s x) ≡ true) where
@@ -263,7 +264,7 @@ written-length (x ∷ a) [] = refl
 written-length (x ∷ a) (y ∷ output) = ap suc (written-length a output)
 
 written-append : (a b : List Answer) (output : List Float) → length a ≤ length output
-    → written (a ++ b) output ≡ take (length a) (written a output) ++ written b (drop (length a) (written a output))
+    → written (a ++ b) output ≡ written a (take (length a) output) ++ written b (drop (length a) output)
 unfolding written
 written-append [] b output h = refl
 written-append (x ∷ a) b [] h = absurd (omega arith)
@@ -288,7 +289,7 @@ module _ (F : Filter) (keeps : (s : F .State) (x : Float) → F .check s ≡ tru
       → c₂ ≡ cloudedIn (answers F s₁ (drop k input)) → s₂ ≡ after F s₁ (drop k input) → output₂
       ≡ take k output₁ ++ written (answers F s₁ (drop k input)) (drop k output₁)
       → _≡_ {A = Block (F .State)} (record { refusal = 0; clouded = c₁ + c₂; state = s₂; output = output₂ }) (block F s input output₀)
-  unfolding block
+  unfolding block written
   block-parts {s₁} {s₂} {output₁} {output₂} {c₁} {c₂} e ec es eo =
       let q = e ∙ front-is in
       let xs = take k input in
@@ -303,9 +304,13 @@ module _ (F : Filter) (keeps : (s : F .State) (x : Float) → F .check s ≡ tru
       let last : after F s input ≡ s₂ = ap (after F s) (sym (take-append-drop k input)) ∙ after-append F keeps s xs ys
       ∙ ap (λ (r : F .State). after F r ys) (sym t) ∙ sym es in
       let count : cloudedIn (answers F s input) ≡ c₁ + c₂ = ap cloudedIn whole ∙ clouded-append a (answers F s₁ ys) ∙ ap₂ _+_ (sym c) (sym ec) in
-      let places : written (answers F s input) output₀ ≡ output₂ =
-      ap (λ (l : List Answer). written l output₀) whole ∙ written-append a (answers F s₁ ys) output₀ (omega (arith, la))
-      ∙ ap₂ (λ (z : ℕ) (l : List Float). take z l ++ written (answers F s₁ ys) (drop z l)) la (sym o) ∙ sym eo in
+      let front = written a (take k output₀) in
+      let back = drop k output₀ in
+      let lf = written-length a (take k output₀) ∙ length-take-le k output₀ (omega arith) in
+      let more : (b : List Answer) → written (a ++ b) output₀ ≡ front ++ written b back = λ b. rw la at (written-append a b output₀ (omega (arith, la))) in
+      let own : output₁ ≡ front ++ back = o ∙ ap (λ (l : List Answer). written l output₀) (sym (append-nil a)) ∙ more [] in
+      let places : written (answers F s input) output₀ ≡ output₂ = ap (λ (l : List Answer). written l output₀) whole ∙ more (answers F s₁ ys)
+      ∙ rw (eo, own, take-at front back k lf, drop-at front back k lf) in
       rw (good, le-ltb (length output₀) (length input) room, count, last, places)
 
   -- the counts of both parts are no more than the samples
@@ -328,13 +333,6 @@ module _ (F : Filter) (keeps : (s : F .State) (x : Float) → F .check s ≡ tru
 
 -- ---- a block whose samples are taken some at a time
 
-written-split : (a b : List Answer) (front back : List Float) → length a ≡ length front → written (a ++ b) (front ++ back) ≡ written a front ++ written b back
-unfolding written
-written-split [] b [] back h = refl
-written-split [] b (y ∷ front) back h = absurd (omega (arith, h))
-written-split (x ∷ a) b [] back h = absurd (omega (arith, h))
-written-split (x ∷ a) b (y ∷ front) back h = ap (λ (l : List Float). placed x y ∷ l) (written-split a b front back (omega (arith, h)))
-
 module _ (F : Filter) (keeps : (s : F .State) (x : Float) → F .check s ≡ true → F .check (F .next s x) ≡ true) (s₀ : F .State) (input output₀ : List Float)
   where
     -- n samples from sample i on, as a block of their own over their places, which hold ys after it
@@ -344,8 +342,8 @@ module _ (F : Filter) (keeps : (s : F .State) (x : Float) → F .check s ≡ tru
     run-part {s} {s′} {output} {ys} {refusal} {clouded} {c} {i} n h e p =
         let xs = take n (drop i input) in
         let os = take n (drop i output) in
-        let lx : length xs ≡ n = rw (length-take, length-drop) (omega arith) in
-        let lo : length os ≡ n = rw (length-take, length-drop) (omega (arith, p .room)) in
+        let lx = part-length input i n h in
+        let lo = part-length output i n (omega (arith, p .room)) in
         let q = e ∙ block-is F s xs os (p .good) (omega (arith, lx, lo)) in
         let a = answers F s xs in
         let la : length a ≡ n = answers-length F keeps s xs ∙ lx in
@@ -375,7 +373,8 @@ module _ (F : Filter) (keeps : (s : F .State) (x : Float) → F .check s ≡ tru
               omega (arith, sum, p .count);
           places =
               rw (take-at first behind (i + n) lf, drop-at first behind (i + n) lf, append-assoc)
-              (ap (λ (t : List Float). take i output ++ t) (ap (λ (t : List Float). t ++ written b behind) ey ∙ sym (written-split a b os behind (la ∙ sym lo))
-              ∙ sym (ap₂ written all (split output))) ∙ p .places);
+              (ap (λ (t : List Float). take i output ++ t) (ap₂ (λ (t u : List Float). t ++ written b u) ey (sym (drop-drop n i output))
+              ∙ sym (rw la at (written-append a b (drop i output) (omega (arith, la, p .room, length-drop i output))))
+              ∙ sym (ap (λ (t : List Answer). written t (drop i output)) all)) ∙ p .places);
           same = same-length ∙ p .same;
         }

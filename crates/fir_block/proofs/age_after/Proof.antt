@@ -1,5 +1,5 @@
 -- `fir_block::age_after` meets its contract.
-use Rattle.fir_theory.proofs.Copies.{age-none, age-more, age-most}
+use Rattle.fir_theory.proofs.Counts.{age-none, age-more, age-most}
 use mathlib.Core.Path.{sym, _∙_}
 use borrow.Author.Tests.{not-true, not-false}
 use borrow.Author.Needs.{needs}

@@ -22,24 +22,25 @@ use Rattle.fir_block.proofs.block.Statement.{statement}
 use Rattle.fir_block.proofs.block.Tie as tie
 
 -- ---- a record that is not refused
-abbrev known : tie.Else1 → tie.After-slice-known2
-known e = e .before .before .before
-
 abbrev start : tie.Else1 → tie.Start
-start e = known e .before .before .before .before
+start e = search
 
 abbrev lent-of : tie.Else1 → TapsRecord
-lent-of e = let a = start e .args in lentTaps (a .taps .now) (a .samples .now) (a .n) (a .held) (a .window)
+lent-of e = let a = start e .args in lentTaps (a .taps .now) (a .samples .now) (a .length) (a .held) (a .window)
 
 good : (e : tie.Else1) → (fits maxTaps (lent-of e) ≡ true) × (checkTaps maxTaps (lent-of e) ≡ true)
 good e = lent-good (fir maxTaps binary64) (fits maxTaps) (lent-of e) (λ z. omega arith) (sym (e .before .refusal-of .ensures) ∙ e .if1 .left)
 
 returns : tie.Need-returns
-returns c = lent-block-refused (fir maxTaps binary64) (fits maxTaps) _ _ _ (c .before .refusal-of .ensures) (c .if1 .taken)
+returns c = let r = c .refused .ensures in
+    let f = c .before in
+    rw (r .0, r .1, r .2) (lent-block-refused (fir maxTaps binary64) (fits maxTaps) _ _ _ (f .before .refusal-of .ensures) (f .if1 .taken))
 
 returns-2 : tie.Need-returns-2
-returns-2 c = let g = good (c .before) in
-    block-short (fir maxTaps binary64) _ _ _ (g .1) (c .if2 .taken) ∙ sym (lent-block (fir maxTaps binary64) (fits maxTaps) _ _ _ (g .0))
+returns-2 c = let r = c .refused2 .ensures in
+    let g = good (c .before .before) in
+    rw (r .0, r .1, r .2) (block-short (fir maxTaps binary64) _ _ _ (g .1) (c .before .if2 .taken)
+    ∙ sym (lent-block (fir maxTaps binary64) (fits maxTaps) _ _ _ (g .0)))
 
 -- ---- where the arms meet
 abbrev else1 : tie.Joined3 → tie.Else1
@@ -48,7 +49,7 @@ else1 j = j .before .before
 room : (j : tie.Joined3) → length (start (else1 j) .args .input .now) ≤ length (start (else1 j) .args .output .now)
 room j = j .before .if2 .left
 
-first-is : (j : tie.Joined3) → j .if3 .first ≡ min (length (start (else1 j) .args .input .now)) (start (else1 j) .args .n - start (else1 j) .args .held)
+first-is : (j : tie.Joined3) → j .if3 .first ≡ min (length (start (else1 j) .args .input .now)) (start (else1 j) .args .length - start (else1 j) .args .held)
 first-is j = ⊎-elim (λ w. omega arith) (λ w. omega arith) (j .if3 .came)
 
 sub-missing : tie.Need-sub-missing
@@ -72,11 +73,11 @@ abbrev front : tie.Else4 → tie.After-pass-some
 front q = q .before .before .before .before .before
 
 abbrev joined : tie.Else4 → tie.Joined3
-joined q = front q .before .before .before
+joined q = search
 
 full : (q : tie.Else4) → let a = start (else1 (joined q)) .args in let p = front q .pass-some in
-    (checkTaps maxTaps (lentTaps (a .taps .now) (p .last .1 .0) (a .n) (p .result .held) (a .window)) ≡ true)
-    × (p .result .held ≡ a .n) × (length (p .last .1 .1 .1 .1 .1 .1 .1 .0) ≡ length (a .output .now))
+    (checkTaps maxTaps (lentTaps (a .taps .now) (p .last .1 .0) (a .length) (p .result .held) (a .window)) ≡ true)
+    × (p .result .held ≡ a .length) × (length (p .last .1 .1 .1 .1 .1 .1 .1 .0) ≡ length (a .output .now))
 full q = let j = joined q in
     front-full maxTaps binary64 (lent-of (else1 j)) _ _ (j .if3 .first) (good (else1 j) .1) (omega (arith, first-is j)) (room j)
     (omega (arith, first-is j, q .if4 .left)) (front q .pass-some .ensures)
@@ -87,7 +88,8 @@ pass-all-requires c κs = let q = c .before .before in
     let g = good (else1 j) in
     let z = sizes maxTaps (lent-of (else1 j)) (g .1) in
     let l = fits-lengths maxTaps (lent-of (else1 j)) (g .0) in
-    (z .some, z .within, l .0, q .before .before .before .before .samples .given ∙ l .1, omega (arith, first-is j), omega (arith, full q .2, room j))
+    let after-samples : tie.After-samples = search in
+    (z .some, z .within, l .0, after-samples .samples .given ∙ l .1, omega (arith, first-is j), omega (arith, full q .2, room j))
 
 -- ---- both parts together
 abbrev rest : tie.After-pass-all → tie.Else4
@@ -95,7 +97,7 @@ rest a = a .before .before .before
 
 both : (a : tie.After-pass-all) → let j = else1 (joined (rest a)) in let s = start j .args in let p = front (rest a) .pass-some .result in
     (p .clouded + a .pass-all .result ≤ length (s .input .now))
-    × (ranBlock (p .clouded + a .pass-all .result) (lentTaps (s .taps .now) (a .pass-all .last .1 .0) (s .n) (p .held) (s .window))
+    × (ranBlock (p .clouded + a .pass-all .result) (lentTaps (s .taps .now) (a .pass-all .last .1 .0) (s .length) (p .held) (s .window))
     (a .pass-all .last .1 .1 .1 .1 .1 .0) ≡ block (fir maxTaps binary64) (lent-of j) (s .input .now) (s .output .now))
 both a = let j = joined (rest a) in
     let f = full (rest a) in
@@ -111,11 +113,11 @@ add-t17 c = let a : tie.After-pass-all = search in
 
 returns-4 : tie.Need-returns-4
 returns-4 c = let a : tie.After-pass-all = search in
-    both a .1 ∙ sym (lent-block (fir maxTaps binary64) (fits maxTaps) _ _ _ (good (else1 (joined (a .before .before .before))) .0))
+    both a .1 ∙ sym (lent-block (fir maxTaps binary64) (fits maxTaps) _ _ _ (good (else1 (joined (rest a))) .0))
 
 pub block-spec : {M : Type 1} → statement M
 block-spec =
     tie.close
-    (tie.spec (λ c κs. search needs) (λ c. search needs) returns (λ c. search needs) returns-2
+    (tie.spec (λ c κs. search needs) (λ c κs. search needs) (λ c. search needs) returns (λ c κs. search needs) (λ c. search needs) returns-2
     sub-missing pass-some-requires (λ c. search needs) (λ c. search needs) returns-3
     pass-all-requires add-t17 (λ c. search needs) (λ c. search needs) returns-4)

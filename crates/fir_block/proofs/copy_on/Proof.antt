@@ -7,7 +7,7 @@ use lib.Ieee.{nan}
 use borrow.Author.Needs.{needs}
 use Rattle.lists.specs.Lists.{spliced}
 use Rattle.lists.proofs.Overwriting.{Overwriting, overwrite-start, overwrite-turn, overwrite-done}
-use Rattle.fir_theory.proofs.Copies.{part-length, part-at}
+use Rattle.lists.proofs.Places.{part-length, part-at}
 use Rattle.fir_block.proofs.copy_on.Statement.{statement}
 use Rattle.fir_block.proofs.copy_on.Tie as tie
 
@@ -23,7 +23,7 @@ loop-holds c = overwrite-start _ (part-length _ _ _ (c .pre .0)) (c .pre .1)
 loop-again : tie.Need-loop-again Inv-loop μ-loop
 loop-again c = let h = c .before .loop-test .taken in
     let a = c .before .before .before .args in
-    overwrite-turn _ _ nan refl h (sym (part-at (a .x .now) (a .from) _ _ h)) (c .before .before .loop .inv)
+    overwrite-turn _ _ nan refl h (sym (part-at (a .x .now) (a .from) _ _ nan h)) (c .before .before .loop .inv)
 
 returns : tie.Need-returns Inv-loop μ-loop
 unfolding spliced

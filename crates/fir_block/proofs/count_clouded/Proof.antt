@@ -4,7 +4,7 @@ use Prim.Native.Nat.{_-_}
 use mathlib.Core.Logic.{⊎-elim}
 use borrow.Author.Tests.{lt-ltb, le-ltb}
 use lib.ListN.{length}
-use Rattle.fir_theory.proofs.Copies.{Counting, count-start, count-turn, count-done}
+use Rattle.fir_theory.proofs.Counts.{Counting, count-start, count-turn, count-done}
 use Rattle.fir_block.proofs.count_clouded.Statement.{statement}
 use Rattle.fir_block.proofs.count_clouded.Tie as tie
 

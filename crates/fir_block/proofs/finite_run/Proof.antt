@@ -5,7 +5,7 @@ use native.Mathlib.Nat.{zero-add}
 use native.Mathlib.Omega.{arith}
 use borrow.Author.Tests.{not-true, not-false}
 use borrow.Author.Needs.{needs}
-use Rattle.fir_theory.proofs.Copies.{Finite, finite-turn, finite-found}
+use Rattle.fir_theory.proofs.Counts.{Finite, finite-turn, finite-found}
 use Rattle.fir_block.proofs.finite_run.Statement.{statement}
 use Rattle.fir_block.proofs.finite_run.Tie as tie
 

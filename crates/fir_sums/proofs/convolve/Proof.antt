@@ -21,17 +21,25 @@ returns-4 : tie.Need-returns-4
 returns-4 c = no-places binary64 _ _ _ _ _ _ _ (sym (not-true _ (c .if4 .taken)) ∙ c .before .within2 .ensures)
 
 outputs-requires : tie.Need-outputs-requires
-outputs-requires c κs = let e = c .before .before .before in
-    let xs = leb-true _ _ (sym (e .before .within .ensures) ∙ not-false _ (e .if3 .left)) in
-    let os = leb-true _ _ (sym (c .before .before .within2 .ensures) ∙ not-false _ (c .before .if4 .left)) in
-    (omega (arith, e .before .before .before .if1 .left), e .before .before .if2 .left, xs, os)
+outputs-requires c κs = let e4 : tie.Else4 = search in
+    let w2 : tie.After-within2 = search in
+    let e3 : tie.Else3 = search in
+    let w1 : tie.After-within = search in
+    let e2 : tie.Else2 = search in
+    let e1 : tie.Else1 = search in
+    let xs = leb-true _ _ (sym (w1 .within .ensures) ∙ not-false _ (e3 .if3 .left)) in
+    let os = leb-true _ _ (sym (w2 .within2 .ensures) ∙ not-false _ (e4 .if4 .left)) in
+    (omega (arith, e1 .if1 .left), e2 .if2 .left, xs, os)
 
 returns-5 : tie.Need-returns-5
-returns-5 c = let a = c .before .before .before in
-    let e = a .before .before .before in
-    all-there binary64 _ _ _ _ _ _ _ (e .before .before .before .if1 .left) (e .before .before .if2 .left)
-    (sym (not-false _ (e .if3 .left)) ∙ e .before .within .ensures) (sym (not-false _ (a .before .if4 .left)) ∙ a .before .before .within2 .ensures)
-    (c .before .before .outputs .ensures)
+returns-5 c = let e4 : tie.Else4 = search in
+    let w2 : tie.After-within2 = search in
+    let e3 : tie.Else3 = search in
+    let w1 : tie.After-within = search in
+    let e2 : tie.Else2 = search in
+    let e1 : tie.Else1 = search in
+    all-there binary64 _ _ _ _ _ _ _ (e1 .if1 .left) (e2 .if2 .left) (sym (not-false _ (e3 .if3 .left)) ∙ w1 .within .ensures)
+    (sym (not-false _ (e4 .if4 .left)) ∙ w2 .within2 .ensures) (c .before .before .outputs .ensures)
 
 pub convolve-spec : {M : Type 1} → statement M
 convolve-spec =

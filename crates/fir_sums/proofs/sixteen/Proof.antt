@@ -23,11 +23,14 @@ slice-aggregate-add-scaled : tie.Need-slice-aggregate-add-scaled Inv-loop μ-loo
 slice-aggregate-add-scaled c = sym (sums-length binary64 _ _ _ _ 16 (c .before .before .before .loop .inv .1))
 
 add-scaled-requires : tie.Need-add-scaled-requires Inv-loop μ-loop
-add-scaled-requires c κs = let a = c .before .before .before in omega (arith, sums-length binary64 _ _ _ _ 16 (a .loop .inv .1), a .before .before .before .pre)
+add-scaled-requires c κs = let a : tie.At-loop Inv-loop μ-loop = search in
+    let start : tie.Start Inv-loop μ-loop = search in
+    omega (arith, sums-length binary64 _ _ _ _ 16 (a .loop .inv .1), start .pre)
 
 loop-again : tie.Need-loop-again Inv-loop μ-loop
 loop-again c = let a : tie.At-loop Inv-loop μ-loop = search in
-    (omega arith, taps-turn binary64 _ _ (a .loop .i) _ 16 (omega (arith, a .before .before .before .pre)) (a .loop .inv .1) (c .before .add-scaled .ensures))
+    let start : tie.Start Inv-loop μ-loop = search in
+    (omega arith, taps-turn binary64 _ _ (a .loop .i) _ 16 (omega (arith, start .pre)) (a .loop .inv .1) (c .before .add-scaled .ensures))
 
 returns : tie.Need-returns Inv-loop μ-loop
 returns c = taps-done binary64 _ _ _ _ _ 16 (c .before .loop .inv .0) (c .loop-test .left) (c .before .loop .inv .1)

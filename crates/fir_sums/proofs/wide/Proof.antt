@@ -25,14 +25,15 @@ slice-aggregate-put : tie.Need-slice-aggregate-put Inv-loop μ-loop
 slice-aggregate-put c = sym (sums-length binary64 _ _ _ _ 16 (c .before .before .sixteen .ensures))
 
 put-requires : tie.Need-put-requires Inv-loop μ-loop
-put-requires c κs = let a = c .before .before .before .before in
-    omega (arith, sums-length binary64 _ _ _ _ 16 (c .before .before .sixteen .ensures), a .loop .inv .same, a .before .before .before .before .pre)
+put-requires c κs = let a : tie.At-loop Inv-loop μ-loop = search in
+    let start : tie.Start Inv-loop μ-loop = search in
+    omega (arith, sums-length binary64 _ _ _ _ 16 (c .before .before .sixteen .ensures), a .loop .inv .same, start .pre)
 
 loop-again : tie.Need-loop-again Inv-loop μ-loop
 loop-again c = let after-sixteen : tie.After-sixteen Inv-loop μ-loop = search in
     let a : tie.At-loop Inv-loop μ-loop = search in
-    out-turn binary64 _ _ _ _ _ _ _ 16 (omega arith) (a .before .before .before .before .pre .3) (after-sixteen .sixteen .ensures)
-    (c .before .before .put .ensures) (a .loop .inv)
+    let start : tie.Start Inv-loop μ-loop = search in
+    out-turn binary64 _ _ _ _ _ _ _ 16 (omega arith) (start .pre .3) (after-sixteen .sixteen .ensures) (c .before .before .put .ensures) (a .loop .inv)
 
 returns : tie.Need-returns Inv-loop μ-loop
 returns c = (c .before .loop .inv .within, c .before .loop .inv .places)

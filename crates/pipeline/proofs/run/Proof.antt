@@ -30,11 +30,11 @@ unfolding ran
 returns-2 c = rw (le-leb 3 _ (c .before .if1 .left), lt-leb _ _ (c .if2 .taken))
 
 loop-holds : tie.Need-loop-holds Inv-loop μ-loop
-loop-holds c = let e = c .before .before .before .before in
-    (omega arith, refl, e .if2 .left, e .before .before .before .before .good .1 .0 .1, λ k h. line-start binary64 k _ _ (e .if2 .left) h)
+loop-holds c = let e : tie.Else2 Inv-loop μ-loop = search in
+    (omega arith, refl, e .if2 .left, search needs, λ k h. line-start binary64 k _ _ (e .if2 .left) h)
 
 loop-again : tie.Need-loop-again Inv-loop μ-loop
-loop-again c = let l = c .before .before .before .before in
+loop-again c = let l : tie.At-loop Inv-loop μ-loop = search in
     let a = c .before .advance .ensures in (
       omega arith,
       rw length-set (l .loop .inv .1),
@@ -57,7 +57,7 @@ same-length : tie.Need-same-length Inv-loop μ-loop
 same-length c = rw (length-set, length-set, length-set) (c .before .before .before .loop .inv .1)
 
 returns-3 : tie.Need-returns-3 Inv-loop μ-loop
-returns-3 c = let l = c .before .before .before in
+returns-3 c = let l : tie.At-loop Inv-loop μ-loop = search in
     line-done binary64 _ _ _ (l .loop .inv .2) (omega arith) (c .before .drain .ensures) (l .loop .inv .4 _ (l .before .fill .ensures))
 
 pub run-spec : {M : Type 1} → statement M

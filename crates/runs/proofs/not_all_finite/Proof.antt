@@ -29,8 +29,9 @@ loop-holds c =
     (λ w. (omega arith, omega arith, ap (λ (k : ℕ). take k l) (w .1) ∙ whole (w .0 .left), count-start _ _)) (c .if1 .came)
 
 add-count : tie.Need-add-count Inv-loop μ-loop
-add-count c = let l = c .before .before .before in
-    omega (arith, c .not-finite .ensures, at-most-one (finite (getD (l .before .before .before .args .samples .now) (l .loop .i) nan)))
+add-count c = let l : tie.At-loop Inv-loop μ-loop = search in
+    let start : tie.Start Inv-loop μ-loop = search in
+    omega (arith, c .not-finite .ensures, at-most-one (finite (getD (start .args .samples .now) (l .loop .i) nan)))
 
 loop-again : tie.Need-loop-again Inv-loop μ-loop
 loop-again c = let l = c .before .before .before .loop in

@@ -1,42 +1,27 @@
 -- `fir::TapRecord::from_coeffs` meets its contract.
-use Prim.Native.Nat.{_-_}
-use mathlib.Core.Path.{refl}
+use mathlib.Core.Path.{ap, _∙_}
 use native.Mathlib.Omega.{arith}
-use lib.Ieee.{nan}
-use Rattle.fir_theory.specs.Fir.{zeros}
 use Rattle.limits.specs.Limits.{maxTaps}
-use Rattle.lists.proofs.Overwriting.{Overwriting, overwrite-start, overwrite-turn}
+use Rattle.lists.specs.Copies.{copied}
 use Rattle.fir_theory.proofs.Laws.{made-none, made-many, made}
+use borrow.Author.Needs.{needs}
 use Rattle.fir.proofs.TapRecord.from_coeffs.Statement.{statement}
 use Rattle.fir.proofs.TapRecord.from_coeffs.Tie as tie
 
-abbrev Inv-loop : tie.InvT-loop
-Inv-loop coeffs length samples taps₀ i₀ taps i = Overwriting (zeros maxTaps) 0 coeffs length taps i
-
-abbrev μ-loop : tie.MeasureT-loop
-μ-loop coeffs length samples taps₀ i₀ taps i = length - i
-
-returns : tie.Need-returns Inv-loop μ-loop
+returns : tie.Need-returns
 returns c = made-none maxTaps (c .before .before .before .args .coeffs .now) (c .before .if1 .taken) (c .blank .ensures)
 
-returns-2 : tie.Need-returns-2 Inv-loop μ-loop
+returns-2 : tie.Need-returns-2
 returns-2 c = made-many maxTaps (c .before .before .before .before .args .coeffs .now) (c .before .before .if1 .left) (c .before .if2 .taken)
     (c .blank2 .ensures)
 
-loop-holds : tie.Need-loop-holds Inv-loop μ-loop
-loop-holds c = rw (c .no-numbers2 .ensures) (overwrite-start 0 refl (omega arith))
-
-loop-again : tie.Need-loop-again Inv-loop μ-loop
-loop-again c = overwrite-turn _ _ nan (omega arith) (omega arith) refl (c .before .before .loop .inv)
-
-returns-3 : tie.Need-returns-3 Inv-loop μ-loop
-returns-3 c = let start : tie.Start Inv-loop μ-loop = search in
-    made maxTaps (start .args .coeffs .now) (c .before .loop .i) (omega arith) (omega arith) (omega arith) (c .before .before .before .no-numbers .ensures)
-    (c .before .loop .inv)
+returns-3 : tie.Need-returns-3
+returns-3 c = let taps : tie.After-no-numbers2 = search in
+    let samples : tie.After-no-numbers = search in
+    let ts = samples .before .before .before .before .args .coeffs .now in
+    made maxTaps ts (omega arith) (omega arith) (samples .no-numbers .ensures) (c .before .copy .ensures ∙ ap (copied ts) (taps .no-numbers2 .ensures))
 
 pub from-coeffs-spec : {M : Type 1} → statement M
 from-coeffs-spec =
     tie.close
-    (tie.spec Inv-loop μ-loop (λ c κs. tt) returns (λ c κs. tt) returns-2
-    (λ c κs. tt) (λ c κs. tt) loop-holds (λ c. omega arith) (λ c. omega arith) (λ c. omega arith) (λ c. omega arith) (λ c. omega arith)
-    (λ c. omega arith) loop-again returns-3)
+    (tie.spec (λ c κs. tt) returns (λ c κs. tt) returns-2 (λ c κs. tt) (λ c κs. tt) (λ c. search needs) (λ c κs. search needs) returns-3)

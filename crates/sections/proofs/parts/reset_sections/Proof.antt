@@ -6,6 +6,7 @@ use native.Mathlib.Omega.{arith}
 use borrow.Author.Needs.{needs}
 use lib.ListN.{length, take, length-map, List·getD-map}
 use lib.Seq.{take-all}
+use Rattle.limits.specs.Limits.{maxSections}
 use Rattle.cascade_theory.specs.Section.{clearedSection}
 use Rattle.sections.specs.View.{sectionView}
 use Rattle.lists.proofs.Overwriting.{Overwriting, map-start, map-turn, overwrite-all}
@@ -14,13 +15,14 @@ use Rattle.sections.proofs.parts.reset_sections.Statement.{statement}
 use Rattle.sections.proofs.parts.reset_sections.Tie as tie
 
 abbrev Inv-loop : tie.InvT-loop
-Inv-loop kept₀ i₀ kept i = Overwriting (map sectionView kept₀) 0 (map clearedSection (take 4 (map sectionView kept₀))) 4 (map sectionView kept) i
+Inv-loop kept₀ i₀ kept i = let old = map sectionView kept₀ in
+    Overwriting old 0 (map clearedSection (take maxSections old)) maxSections (map sectionView kept) i
 
 abbrev μ-loop : tie.MeasureT-loop
-μ-loop kept₀ i₀ kept i = 4 - i
+μ-loop kept₀ i₀ kept i = maxSections - i
 
 loop-holds : tie.Need-loop-holds Inv-loop μ-loop
-loop-holds c = map-start clearedSection 4 (simp length-map (omega (arith, c .good .0 .1 .0 .1)))
+loop-holds c = map-start clearedSection maxSections (simp length-map (search needs))
 
 loop-again : tie.Need-loop-again Inv-loop μ-loop
 loop-again c = let l = c .before .before .before .loop in
@@ -30,8 +32,8 @@ loop-again c = let l = c .before .before .before .loop in
 returns : tie.Need-returns Inv-loop μ-loop
 returns c = let at = c .before in
     let old = map sectionView (at .before .args .sections) in
-    let four : length old ≡ 4 = simp length-map (omega (arith, at .before .good .0 .1 .0 .1)) in
-    overwrite-all _ (omega arith) (sym four) (at .loop .inv) ∙ ap (map clearedSection) (take-all 4 old (omega arith))
+    let four : length old ≡ maxSections = simp length-map (search needs) in
+    overwrite-all _ (omega arith) (sym four) (at .loop .inv) ∙ ap (map clearedSection) (take-all maxSections old (omega arith))
 
 pub reset-sections-spec : {M : Type 1} → statement M
 reset-sections-spec =

@@ -6,8 +6,7 @@ use Prim.Native.Nat.{ℕ, _+_, _<_, _≤_, min}
 use native.Mathlib.Nat.{zero-add, add-zero}
 use native.Mathlib.Omega.{arith}
 use lib.Dec.{ltb}
-use lib.ListN.{length, getD, take, drop, length-take, length-drop}
-use lib.Seq.{getD-take, getD-drop}
+use lib.ListN.{length, getD, drop}
 use lib.Ieee.{Float, nan}
 use lib.Ieee.Scale.{finite}
 use Rattle.lists.proofs.Folding.{fold-turn, fold-done, run-turn, run-found}
@@ -66,13 +65,6 @@ pub count-done : {n age₀ : ℕ} {input : List Float} {from : ℕ} (clouded age
     ≡ cloudsFrom n age₀ (drop from input)
 unfolding cloudsFrom
 count-done {n} {age₀} {input} {from} clouded age i h p = sym (add-zero clouded) ∙ fold-done (λ xs. clouded + cloudsFrom n age xs) input i h (p .rest)
-
--- ---- a part of a list
-pub part-length : (x : List Float) (from m : ℕ) → from + m ≤ length x → length (take m (drop from x)) ≡ m
-part-length x from m h = simp (length-take, length-drop) (omega arith)
-
-pub part-at : (x : List Float) (from m j : ℕ) → j < m → getD (take m (drop from x)) j nan ≡ getD x (from + j) nan
-part-at x from m j h = getD-take m (drop from x) j nan h ∙ getD-drop from x j nan
 
 -- ---- the age after a sample
 pub age-none : (n age : ℕ) (x : Float) → finite x ≡ false → 0 ≡ ageAfter n age x
