@@ -64,7 +64,7 @@ cascade-read-back = record {
   numbered = ((λ e. omega (arith, e)), (λ e. omega (arith, e)));
 }
 
--- ---- a tap record with these taps: its slices have as many places as the maxTaps
+-- ---- a tap record with these taps: its slices have as many places as the tap limit
 
 pub taps-fit : (taps samples : List Float) (counts : List ℕ) → tapsFit taps samples counts ≡ true → fits maxTaps (tapsAt taps samples counts) ≡ true
 unfolding tapsFit
