@@ -17,7 +17,7 @@ use Rattle.fir_theory.specs.Lent.{lentTaps, fits}
 use Rattle.cascade_theory.specs.Cascade.{CascadeRecord, blankCascade}
 use Rattle.lists.proofs.Tests.{both, cond-true}
 use Rattle.c_layout.proofs.Laws.{fits-places}
-use Rattle.c_layout.specs.Layout.{flag, cascadeAt, cascadePlaces, cascadeFits, cascadeNumbers, cascadeCounts}
+use Rattle.c_layout.specs.Layout.{countPlaces, flag, cascadeAt, cascadePlaces, cascadeFits, cascadeNumbers, cascadeCounts}
 use Rattle.c_calls.specs.Kinds.{Kind, tapsCounts, tapsAt, tapsFit, firKind}
 use Rattle.c_calls.specs.Calls.{Call, Stored, recordOf, fitting, unchanged, stepCall, blockCall, resetCall, notStored}
 use Rattle.c_layout.proofs.Places.{set-middle}
@@ -149,14 +149,14 @@ module _ (ts ss : List Float) (cs : List ℕ) where
   abbrev with : List Float → ℕ → TapsRecord
   with ss′ h = lentTaps ts ss′ (getD cs 0 0) h (getD cs 2 0)
 
-  pub uncounted : (length cs ≡ 3 → ⊥) → tapsFit ts ss cs ≡ false
+  pub uncounted : (length cs ≡ countPlaces → ⊥) → tapsFit ts ss cs ≡ false
   unfolding tapsFit
-  uncounted h = rw (ne-eqb (length cs) 3 h)
+  uncounted h = rw (ne-eqb (length cs) countPlaces h)
 
-  module _ (three : length cs ≡ 3) where
+  module _ (three : length cs ≡ countPlaces) where
     counted : tapsFit ts ss cs ≡ fits maxTaps before
     unfolding tapsFit tapsAt
-    counted = rw (eq-eqb (length cs) 3 three)
+    counted = rw (eq-eqb (length cs) countPlaces three)
 
     counts-set : (ss′ : List Float) (h : ℕ) → set cs 1 h ≡ tapsCounts (with ss′ h)
     unfolding tapsCounts

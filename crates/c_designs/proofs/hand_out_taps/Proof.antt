@@ -1,12 +1,10 @@
 -- `c_designs::hand_out_taps` meets its contract.
 use mathlib.Core.Path.{_≡_, sym, _∙_}
-use mathlib.Core.List.{_∷_, []}
-use lib.Dec.{eqb}
 use borrow.Author.Tests.{eq-eqb}
-use Rattle.lists.proofs.Tests.{cond-true}
 use lib.ListN.{length}
 use Rattle.limits.specs.Limits.{maxTaps}
 use Rattle.fir.specs.View.{madeView}
+use Rattle.c_layout.specs.Layout.{countPlaces}
 use Rattle.c_calls.specs.Kinds.{tapsCounts}
 use Rattle.c_calls.proofs.Laws.{passed, failed}
 use Rattle.c_designs.proofs.Laws.{taps-lengths, made-unfit, made-refused, made-accepted}
@@ -42,7 +40,7 @@ returns-3 c =
     let samples-kept = copied2 .copy2 .ensures ∙ copied-same (f .samples) (start .args .samples .now) (samples-are start ∙ sym (l .1)) in
     let else2 : tie.Else2 = search in
     made-accepted (madeView (start .args .m)) _ _ _ t (else2 .if2 .left) taps-kept samples-kept
-    (c .before .before .put-counts .ensures .1 ∙ cond-true (eqb (length cs) 3) (f .length ∷ f .held ∷ f .window ∷ []) cs (eq-eqb (length cs) 3 (l .2)))
+    (rw (eq-eqb (length cs) countPlaces (l .2)) at (c .before .before .put-counts .ensures .1))
 
 pub hand-out-taps-spec : {M : Type 1} → statement M
 hand-out-taps-spec =

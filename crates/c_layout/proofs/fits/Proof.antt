@@ -4,7 +4,7 @@ use mathlib.Core.Bool.{true}
 use native.Mathlib.Omega.{arith}
 use lib.ListN.{length}
 use borrow.Author.Tests.{not-true, not-false, lt-leb, le-leb}
-use Rattle.c_layout.specs.Layout.{cascadePlaces, cascadeFits}
+use Rattle.c_layout.specs.Layout.{countPlaces, cascadePlaces, cascadeFits}
 use Rattle.c_layout.proofs.Laws.{places-lengths, fits-flagged, fits-last}
 use borrow.Author.Needs.{needs}
 use Rattle.c_layout.proofs.fits.Statement.{statement}
@@ -17,7 +17,7 @@ returns c = simp (sym (c .before .has-places .ensures) ∙ not-true _ (c .if1 .t
 places : (e : tie.Else1) → cascadePlaces (e .before .before .before .before .args .numbers .now) (e .before .before .before .before .args .counts .now) ≡ true
 places e = sym (e .before .has-places .ensures) ∙ not-false _ (e .if1 .left)
 
-three : (e : tie.Else1) → length (e .before .before .before .before .args .counts .now) ≡ 3
+three : (e : tie.Else1) → length (e .before .before .before .before .args .counts .now) ≡ countPlaces
 three e = places-lengths _ _ (places e) .1
 
 shared-slice-read-if2 : tie.Need-shared-slice-read-if2
