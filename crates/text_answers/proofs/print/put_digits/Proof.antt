@@ -1,11 +1,12 @@
 -- `text_answers::print::put_digits` meets its contract.
 use Prim.Native.Nat.{_≤_, _+_}
-use mathlib.Core.Path.{refl, sym, _∙_}
+use mathlib.Core.Path.{refl}
 use native.Mathlib.Nat.{mod-lt, lt-of-lt-of-le}
 use native.Mathlib.Omega.{arith}
 use lib.ListN.{length}
-use borrow.Author.Tests.{not-true, not-false, leb-true}
+use borrow.Author.Tests.{leb-true}
 use borrow.Author.Needs.{needs}
+use Rattle.lists.proofs.Tests.{passed, failed}
 use Rattle.text_answers.proofs.Texts.{left-out, length-digits, Printing, print-turn, print-done}
 use Rattle.text_answers.proofs.print.put_digits.Statement.{statement}
 use Rattle.text_answers.proofs.print.put_digits.Tie as tie
@@ -18,10 +19,10 @@ abbrev μ-loop : tie.MeasureT-loop
 
 returns : tie.Need-returns Inv-loop μ-loop
 returns c = let a = c .before .before .before .args in
-    left-out (a .output .now) (a .at) _ (a .k) (length-digits (a .base) (a .k) (a .n)) (sym (c .before .within .ensures) ∙ not-true _ (c .if1 .taken))
+    left-out (a .output .now) (a .at) _ (a .k) (length-digits (a .base) (a .k) (a .n)) (failed (c .before .within .ensures) (c .if1 .taken))
 
 loop-holds : tie.Need-loop-holds Inv-loop μ-loop
-loop-holds c = (omega arith, leb-true _ _ (sym (c .before .within .ensures) ∙ not-false _ (c .if1 .left)), (refl, refl))
+loop-holds c = (omega arith, leb-true _ _ (passed (c .before .within .ensures) (c .if1 .left)), (refl, refl))
 
 glyph-requires : tie.Need-glyph-requires Inv-loop μ-loop
 glyph-requires c κs = let s = c .before .before .before .before .before in
