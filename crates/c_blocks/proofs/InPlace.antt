@@ -19,7 +19,7 @@ use Rattle.c_calls.specs.Calls.{Call, unchanged, blockCall, blockInPlaceCall}
 use Rattle.c_calls.proofs.Laws as Laws
 use Rattle.c_calls.proofs.Laws.{block-not-single, block-unfit, lend-block, block-accepted}
 use Rattle.c_calls.proofs.Lists.{ReadBack, good-after}
-use Rattle.c_blocks.specs.Ready.{Ready}
+use Rattle.c_blocks.specs.Ready.{Ready, partLength}
 
 -- ---- a block over its own input, of which the places from i on hold what they held at the start
 pub record InPlace (F : Filter) (s₀ : F .State) (old : List Float) (s : F .State) (samples : List Float) (clouded i : ℕ) : Type 0 where
@@ -72,8 +72,8 @@ module _ (F : Filter) (keeps : (s : F .State) (x : Float) → F .check s ≡ tru
       → _≡_ {A = Block (F .State)} (record { refusal = 0; clouded = clouded; state = s; output = samples }) (block F s₀ old old)
   place-done h e p = run-done F keeps s₀ old old h e (omega arith) (p .running)
 
--- ---- a part that was copied into places for 256 numbers, and is lent from there
-module _ (part places : List Float) {copy : List Float} (l : length places ≡ 256) (h : length part ≤ 256) (e : copy ≡ copied part places) where
+-- ---- a part that was copied into places for a part, and is lent from there
+module _ (part places : List Float) {copy : List Float} (l : length places ≡ partLength) (h : length part ≤ partLength) (e : copy ≡ copied part places) where
   copy-lent : take (length part) copy ≡ part
   copy-lent = ap (take (length part)) e ∙ copied-front part places (length part) refl (omega (arith, l))
 
@@ -144,7 +144,7 @@ module _ (K : Kind) (B : ReadBack K) where
 
     -- a part up to `to`
     pub parts-turn : {numbers numbers′ ys : List Float} {counts counts′ tally tally′ : List ℕ} {r total i to : ℕ} (buffer : List Float)
-        → to ≡ min (i + 256) (length buffer)
+        → to ≡ min (i + partLength) (length buffer)
         → record { refusal = r; numbers = numbers′; counts = counts′; answers = ys; clouded = tally′ }
         ≡ blockInPlaceCall K numbers counts (take (to - i) (drop i buffer)) tally
         → Parts numbers counts buffer tally total i

@@ -5,7 +5,7 @@ ghost use lib.ListN.{length};
 ghost use Rattle.runs.specs.Refusals.{Accepted};
 ghost use Rattle.c_calls.specs.Kinds.{cascadeKind};
 ghost use Rattle.c_calls.specs.Calls.{blockCall, blockInPlaceCall};
-ghost use Rattle.c_blocks.specs.Ready.{Ready};
+ghost use Rattle.c_blocks.specs.Ready.{Ready, partLength};
 use super::parts::no_samples;
 use super::parts::part_end;
 use c_layout::fits;
@@ -48,7 +48,7 @@ fn cascade_part(
     part: &mut [f64],
     clouded: &mut [usize],
 ) -> u8
-    requires { ⌜ length (now part) ≤ 256 ⌝ }
+    requires { ⌜ length (now part) ≤ partLength ⌝ }
     ensures { λ r.
         ⌜ record { refusal = r; numbers = now (numbers .exit); counts = now (counts .exit); answers = now (part .exit); clouded = now (clouded .exit) }
         ≡ blockInPlaceCall cascadeKind (now (numbers .entry)) (now (counts .entry)) (now (part .entry)) (now (clouded .entry)) ⌝ }

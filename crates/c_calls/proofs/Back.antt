@@ -14,11 +14,11 @@ use Rattle.cascade_theory.specs.Cascade.{CascadeRecord, clearedCascade, entered
 use Rattle.cascade_theory.proofs.Laws.{check-next}
 use Rattle.fir_theory.specs.Fir as Fir
 use Rattle.fir_theory.specs.Fir.{TapsRecord, clearedTaps}
-use Rattle.limits.specs.Limits.{maxTaps}
+use Rattle.limits.specs.Limits.{maxSections, maxTaps}
 use Rattle.fir_theory.specs.Lent.{fits}
 use Rattle.fir_theory.proofs.Laws as Taps
 use Rattle.fir_theory.proofs.Laws.{fits-next, fits-lengths, lengths-fit}
-use Rattle.c_layout.specs.Layout.{cascadeAt, cascadeNumbers, sectionsNumbers, cascadeCounts, cascadePlaces, cascadeFits}
+use Rattle.c_layout.specs.Layout.{countPlaces, cascadeAt, cascadeNumbers, sectionsNumbers, cascadeCounts, cascadePlaces, cascadeFits}
 use Rattle.lists.proofs.Places.{four-places}
 use Rattle.lists.proofs.Tests.{both}
 use Rattle.c_calls.specs.Kinds.{tapsAt, tapsCounts, tapsFit, cascadeKind, firKind}
@@ -31,7 +31,7 @@ next-length f zero ss x = refl
 next-length f (suc n) [] x = refl
 next-length f (suc n) (s ∷ ss) x = ap suc (next-length f n ss (sectionOut f s x))
 
-pub cascade-back : (c : CascadeRecord) → length (c .sections) ≡ 4 → (cascadeAt (cascadeNumbers c) (cascadeCounts c) ≡ c)
+pub cascade-back : (c : CascadeRecord) → length (c .sections) ≡ maxSections → (cascadeAt (cascadeNumbers c) (cascadeCounts c) ≡ c)
     × (cascadeFits (cascadeNumbers c) (cascadeCounts c) ≡ true)
 unfolding cascadeAt cascadeNumbers sectionsNumbers cascadeCounts cascadePlaces cascadeFits
 cascade-back c h =
@@ -53,7 +53,7 @@ cascade-back c h =
 pub cascade-read-back : ReadBack cascadeKind
 unfolding cascadeAt next moved clearedCascade
 cascade-read-back = record {
-  Good = λ c. length (c .sections) ≡ 4;
+  Good = λ c. length (c .sections) ≡ maxSections;
   good-read = λ numbers counts fit. refl;
   good-next = λ c x h g. next-length binary64 (c .count) (c .sections) (entered binary64 c x) ∙ g;
   good-cleared = λ c g. length-map (c .sections) clearedSection ∙ g;
@@ -63,11 +63,11 @@ cascade-read-back = record {
   numbered = ((λ e. omega (arith, e)), (λ e. omega (arith, e)));
 }
 
--- ---- a tap record with these taps: its slices have as many places as the maxTaps
+-- ---- a tap record with these taps: its slices have as many places as the tap limit
 
 pub taps-fit : (taps samples : List Float) (counts : List ℕ) → tapsFit taps samples counts ≡ true → fits maxTaps (tapsAt taps samples counts) ≡ true
 unfolding tapsFit
-taps-fit taps samples counts h = both (eqb (length counts) 3) _ h .1
+taps-fit taps samples counts h = both (eqb (length counts) countPlaces) _ h .1
 
 pub taps-back : (taps : List Float) (r : TapsRecord) → r .taps ≡ taps → fits maxTaps r ≡ true → (tapsAt taps (r .samples) (tapsCounts r) ≡ r)
     × (tapsFit taps (r .samples) (tapsCounts r) ≡ true)

@@ -1,12 +1,12 @@
 -- What a call shows where it returns, for either kind of record.
 use mathlib.Core.Path.{_≡_, refl, sym, ap, _∙_}
-use mathlib.Core.Bool.{Bool, true, false, not, _&&_, cond}
+use mathlib.Core.Bool.{true, false, _&&_, cond}
 use mathlib.Core.List.{List, [], _∷_}
 use Prim.Native.Nat.{ℕ}
 use lib.Dec.{eqb}
 use lib.ListN.{length, getD, set}
 use lib.Ieee.{Float, binary64}
-use borrow.Author.Tests.{eq-eqb, ne-eqb, eqb-true, not-true, not-false}
+use borrow.Author.Tests.{eq-eqb, ne-eqb, eqb-true}
 use Rattle.runs.specs.Refusals.{Accepted, BadCall}
 use Rattle.runs.specs.Runs.{Filter, Answer, Step, Reset, Block, numberOf, isClouded, refusalOf, step, reset, block}
 use Rattle.runs.specs.Lent.{lentStep, lentReset, lentBlock}
@@ -17,18 +17,10 @@ use Rattle.fir_theory.specs.Lent.{lentTaps, fits}
 use Rattle.cascade_theory.specs.Cascade.{CascadeRecord, blankCascade}
 use Rattle.lists.proofs.Tests.{both, cond-true}
 use Rattle.c_layout.proofs.Laws.{fits-places}
-use Rattle.c_layout.specs.Layout.{flag, cascadeAt, cascadePlaces, cascadeFits, cascadeNumbers, cascadeCounts}
+use Rattle.c_layout.specs.Layout.{countPlaces, flag, cascadeAt, cascadePlaces, cascadeFits, cascadeNumbers, cascadeCounts}
 use Rattle.c_calls.specs.Kinds.{Kind, tapsCounts, tapsAt, tapsFit, firKind}
 use Rattle.c_calls.specs.Calls.{Call, Stored, recordOf, fitting, unchanged, stepCall, blockCall, resetCall, notStored}
 use Rattle.c_layout.proofs.Places.{set-middle}
-
--- ---- a test that a function made for the code, which refuses where it is false
-module _ {t b : Bool} (e : t ≡ b) where
-  pub passed : not t ≡ false → b ≡ true
-  passed h = sym e ∙ not-false _ h
-
-  pub failed : not t ≡ true → b ≡ false
-  failed h = sym e ∙ not-true _ h
 
 -- ---- a cascade read from slices that fit, and written into slices that have its places
 module _ (ns : List Float) (cs : List ℕ) where
@@ -149,14 +141,14 @@ module _ (ts ss : List Float) (cs : List ℕ) where
   abbrev with : List Float → ℕ → TapsRecord
   with ss′ h = lentTaps ts ss′ (getD cs 0 0) h (getD cs 2 0)
 
-  pub uncounted : (length cs ≡ 3 → ⊥) → tapsFit ts ss cs ≡ false
+  pub uncounted : (length cs ≡ countPlaces → ⊥) → tapsFit ts ss cs ≡ false
   unfolding tapsFit
-  uncounted h = rw (ne-eqb (length cs) 3 h)
+  uncounted h = rw (ne-eqb (length cs) countPlaces h)
 
-  module _ (three : length cs ≡ 3) where
+  module _ (three : length cs ≡ countPlaces) where
     counted : tapsFit ts ss cs ≡ fits maxTaps before
     unfolding tapsFit tapsAt
-    counted = rw (eq-eqb (length cs) 3 three)
+    counted = rw (eq-eqb (length cs) countPlaces three)
 
     counts-set : (ss′ : List Float) (h : ℕ) → set cs 1 h ≡ tapsCounts (with ss′ h)
     unfolding tapsCounts

@@ -14,7 +14,7 @@ use Rattle.runs.specs.Runs as Runs
 use Rattle.runs.specs.Runs.{marked, refused, numberOf, isClouded, Filter, refusedBlock, cloudedIn, written, answer, answers, after}
 use Rattle.runs.specs.Forgetting.{Call, step, block, reset, Outcome, stepped, blocked, wasReset, outcome, left, run}
 use Rattle.runs.specs.Forgetting.{isShort}
-use Rattle.runs.proofs.Laws.{step-refused, step-answered, step-is, reset-refused, reset-done, block-is, block-refused, block-short}
+use Rattle.runs.proofs.Laws.{marked-accepted, step-refused, step-answered, step-is, reset-refused, reset-done, block-is, block-refused, block-short}
 use Rattle.runs.proofs.Forgetting.{step-outcome, step-left, block-outcome, block-left, reset-outcome, reset-left, outcome-refused, left-refused}
 use Rattle.c_layout.specs.Layout.{flag}
 use Rattle.c_calls.specs.Kinds.{Kind}
@@ -52,10 +52,6 @@ record Left (numbers : List Float) (counts : List ℕ) (numbers′ : List Float)
 shown-marked : (m : Bool) (y : Float) → marked (eqb (flag (isClouded (marked m y))) 1) (numberOf (marked m y)) ≡ marked m y
 shown-marked true y = refl
 shown-marked false y = refl
-
-marked-accepted : (m : Bool) (y : Float) → Accepted ≡ Runs.refusalOf (marked m y)
-marked-accepted true y = refl
-marked-accepted false y = refl
 
 -- the slices after a call that changed none of them
 left-by : (K : Kind) {numbers numbers′ answers answers′ : List Float} {counts counts′ clouded clouded′ : List ℕ} {r n : ℕ}
@@ -133,7 +129,7 @@ module _ (K : Kind) (B : ReadBack K) where
             let m = F .mark s₀ x in
             let y = F .value s₀ x in
             let lent = lend-step K numbers counts q refl x (step-answered F s₀ x t refl refl) in
-            let z = e ∙ sym (Laws.step-accepted K numbers counts x answer clouded p lent (marked-accepted m y) refl refl refl refl refl) in
+            let z = e ∙ sym (Laws.step-accepted K numbers counts x answer clouded p lent (sym (marked-accepted m y)) refl refl refl refl refl) in
             let er : r ≡ 0 = ap (λ (k : Calls.Call). k .refusal) z in
             let ey : answer′ ≡ numberOf (marked m y) ∷ [] = ap (λ (k : Calls.Call). k .answers) z in
             let et : clouded′ ≡ flag (isClouded (marked m y)) ∷ [] = ap (λ (k : Calls.Call). k .clouded) z in

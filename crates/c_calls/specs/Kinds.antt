@@ -7,12 +7,12 @@ use lib.ListN.{length, getD}
 use lib.Ieee.{Float, binary64}
 use Rattle.runs.specs.Runs.{Filter}
 use Rattle.cascade_theory.specs.Cascade.{cascade}
-use Rattle.c_layout.specs.Layout.{cascadeAt, cascadeNumbers, cascadeCounts, cascadeFits}
+use Rattle.c_layout.specs.Layout.{countPlaces, cascadeAt, cascadeNumbers, cascadeCounts, cascadeFits}
 use Rattle.fir_theory.specs.Fir.{TapsRecord, fir}
 use Rattle.limits.specs.Limits.{maxTaps}
 use Rattle.fir_theory.specs.Lent.{lentTaps, fits}
 
--- ---- a tap record: taps, samples and 3 counts, which are the length, the held count and the window code
+-- ---- a tap record: taps, samples and counts, which are the length, the held count and the window code
 
 unfoldable pub tapsAt : List Float → List Float → List ℕ → TapsRecord
 tapsAt taps samples counts = lentTaps taps samples (getD counts 0 0) (getD counts 1 0) (getD counts 2 0)
@@ -21,7 +21,7 @@ unfoldable pub tapsCounts : TapsRecord → List ℕ
 tapsCounts r = r .length ∷ r .held ∷ r .window ∷ []
 
 unfoldable pub tapsFit : List Float → List Float → List ℕ → Bool
-tapsFit taps samples counts = eqb (length counts) 3 && fits maxTaps (tapsAt taps samples counts)
+tapsFit taps samples counts = eqb (length counts) countPlaces && fits maxTaps (tapsAt taps samples counts)
 
 -- ---- either kind: its filter, and how a record stands in the two slices that a call may change
 pub record Kind : Type 1 where

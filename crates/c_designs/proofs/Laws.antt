@@ -11,23 +11,23 @@ use Rattle.limits.specs.Limits.{maxTaps}
 use Rattle.runs.specs.Refusals.{Accepted, BadCall}
 use Rattle.fir_theory.specs.Fir.{Made}
 use Rattle.design_cascade.specs.Design.{DesignRecord}
-use Rattle.c_layout.specs.Layout.{cascadePlaces, cascadeNumbers, cascadeCounts}
+use Rattle.c_layout.specs.Layout.{countPlaces, cascadePlaces, cascadeNumbers, cascadeCounts}
 use Rattle.lists.proofs.Tests.{both}
 use Rattle.c_calls.specs.Kinds.{tapsCounts}
 use Rattle.c_calls.specs.Calls.{Stored, notStored}
 use Rattle.c_designs.specs.Designs.{TapsStored, designCall, tapsUnchanged, tapsPlaces, madeCall}
 
 -- slices of a tap record
-pub taps-last : (ts ss : List Float) (cs : List ℕ) → length ts ≡ maxTaps → length ss ≡ maxTaps → eqb (length cs) 3 ≡ tapsPlaces ts ss cs
+pub taps-last : (ts ss : List Float) (cs : List ℕ) → length ts ≡ maxTaps → length ss ≡ maxTaps → eqb (length cs) countPlaces ≡ tapsPlaces ts ss cs
 unfolding tapsPlaces
 taps-last ts ss cs h k = rw (eq-eqb (length ts) maxTaps h, eq-eqb (length ss) maxTaps k)
 
-pub taps-lengths : (ts ss : List Float) (cs : List ℕ) → tapsPlaces ts ss cs ≡ true → (length ts ≡ maxTaps) × (length ss ≡ maxTaps) × (length cs ≡ 3)
+pub taps-lengths : (ts ss : List Float) (cs : List ℕ) → tapsPlaces ts ss cs ≡ true → (length ts ≡ maxTaps) × (length ss ≡ maxTaps) × (length cs ≡ countPlaces)
 unfolding tapsPlaces
 taps-lengths ts ss cs h =
-    let p = both (eqb (length ts) maxTaps) (eqb (length ss) maxTaps && eqb (length cs) 3) h in
-    let q = both (eqb (length ss) maxTaps) (eqb (length cs) 3) (p .1) in
-    (eqb-true (length ts) maxTaps (p .0), eqb-true (length ss) maxTaps (q .0), eqb-true (length cs) 3 (q .1))
+    let p = both (eqb (length ts) maxTaps) (eqb (length ss) maxTaps && eqb (length cs) countPlaces) h in
+    let q = both (eqb (length ss) maxTaps) (eqb (length cs) countPlaces) (p .1) in
+    (eqb-true (length ts) maxTaps (p .0), eqb-true (length ss) maxTaps (q .0), eqb-true (length cs) countPlaces (q .1))
 
 -- ---- designs
 module _ (d : DesignRecord) (ns : List Float) (cs : List ℕ) where

@@ -11,7 +11,7 @@ use Rattle.fir_theory.specs.Fir.{Made, Blackman}
 use Rattle.design_fir.specs.Fir.{firLp}
 use Rattle.design_fir.specs.declared.WindowType.{WindowType}
 use Rattle.design_cascade.specs.Design.{DesignRecord}
-use Rattle.c_layout.specs.Layout.{cascadePlaces, cascadeNumbers, cascadeCounts}
+use Rattle.c_layout.specs.Layout.{countPlaces, cascadePlaces, cascadeNumbers, cascadeCounts}
 use Rattle.c_calls.specs.Kinds.{tapsCounts}
 use Rattle.c_calls.specs.Calls.{Stored, notStored}
 
@@ -40,7 +40,7 @@ module _ (taps samples : List Float) (counts : List ℕ) where
   tapsUnchanged n = record { refusal = n; taps = taps; samples = samples; counts = counts }
 
   unfoldable pub tapsPlaces : Bool
-  tapsPlaces = eqb (length taps) maxTaps && (eqb (length samples) maxTaps && eqb (length counts) 3)
+  tapsPlaces = eqb (length taps) maxTaps && (eqb (length samples) maxTaps && eqb (length counts) countPlaces)
 
   unfoldable pub madeCall : Made → TapsStored
   madeCall m =
@@ -49,6 +49,6 @@ module _ (taps samples : List Float) (counts : List ℕ) where
       (tapsUnchanged (m .refusal)))
       (tapsUnchanged BadCall)
 
-  -- a FIR design by the window's code; there is none above 3
+  -- a FIR design by the window's code; there is none above Blackman's
   unfoldable pub firCall : ℕ → Float → ℕ → TapsStored
   firCall n cutoff window = cond (leb window Blackman) (madeCall (firLp n cutoff (windowOf window))) (tapsUnchanged BadCall)

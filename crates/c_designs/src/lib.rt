@@ -13,6 +13,9 @@ use fir::FirDesignResult;
 use fir::TapRecord;
 use lists::copy;
 
+// The highest window code, Blackman's.
+pub const LAST_WINDOW: usize = 3;
+
 // A cascade design into slices: 0, or the number that refuses it.
 pub fn hand_out(d: CascadeDesignResult, numbers: &mut [f64], counts: &mut [usize]) -> u8
     ensures { λ r. ⌜ record { refusal = r; numbers = now (numbers .exit); counts = now (counts .exit) }

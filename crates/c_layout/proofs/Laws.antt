@@ -7,14 +7,14 @@ use lib.Dec.{eqb, leb}
 use lib.ListN.{length, getD}
 use lib.Ieee.{Float}
 use borrow.Author.Tests.{eqb-true}
-use Rattle.c_layout.specs.Layout.{cascadePlaces, cascadeFits}
+use Rattle.c_layout.specs.Layout.{cascadeLength, countPlaces, cascadePlaces, cascadeFits}
 use Rattle.lists.proofs.Tests.{both}
 
-pub places-lengths : (ns : List Float) (cs : List ℕ) → cascadePlaces ns cs ≡ true → (length ns ≡ 32) × (length cs ≡ 3)
+pub places-lengths : (ns : List Float) (cs : List ℕ) → cascadePlaces ns cs ≡ true → (length ns ≡ cascadeLength) × (length cs ≡ countPlaces)
 unfolding cascadePlaces
-places-lengths ns cs h = let p = both (eqb (length ns) 32) (eqb (length cs) 3) h in (eqb-true (length ns) 32 (p .0), eqb-true (length cs) 3 (p .1))
+places-lengths ns cs h = let p = both (eqb (length ns) cascadeLength) (eqb (length cs) countPlaces) h in (eqb-true _ _ (p .0), eqb-true _ _ (p .1))
 
-pub fits-lengths : (ns : List Float) (cs : List ℕ) → cascadeFits ns cs ≡ true → (length ns ≡ 32) × (length cs ≡ 3)
+pub fits-lengths : (ns : List Float) (cs : List ℕ) → cascadeFits ns cs ≡ true → (length ns ≡ cascadeLength) × (length cs ≡ countPlaces)
 unfolding cascadeFits
 fits-lengths ns cs h = places-lengths ns cs (both (cascadePlaces ns cs) _ h .0)
 

@@ -1,8 +1,8 @@
-// How a cascade stands in slices that a caller lends: 32 numbers and 3 counts (include/pulse.h).
+// How a cascade stands in slices that a caller lends: its numbers and three counts (include/pulse.h).
 ghost use mathlib.Core.Path.{_≡_};
 ghost use mathlib.Core.Bool.{cond};
 ghost use mathlib.Core.List.{[], _∷_, _++_, map};
-ghost use Prim.Native.Nat.{_≤_};
+ghost use Prim.Native.Nat.{_*_, _≤_};
 ghost use lib.Dec.{eqb};
 ghost use lib.ListN.{length, drop};
 ghost use Rattle.lists.specs.Lists.{spliced};
@@ -10,13 +10,27 @@ ghost use Rattle.sections.specs.View.{sectionView, firstView};
 ghost use Rattle.cascade_theory.specs.Cascade.{blankCascade};
 ghost use Rattle.cascade.specs.View.{cascadeView};
 ghost use Rattle.c_layout.specs.Layout.{sectionAt, firstAt, cascadeAt, sectionNumbers, sectionsNumbers, firstNumbers, cascadeNumbers, cascadeCounts};
-ghost use Rattle.c_layout.specs.Layout.{cascadePlaces, cascadeFits, flag};
+ghost use Rattle.c_layout.specs.Layout.{cascadePlaces, cascadeFits, flag, sectionPlaces, sectionsPlaces, cascadeLength, countPlaces};
 use cascade::Cascade;
+use limits::MAX_SECTIONS;
 use sections::FirstOrder;
 use sections::Section;
 
+// How many numbers a section has.
+const SECTION: usize = 7;
+
+// Where the numbers of the second, third and fourth section start.
+const SECOND: usize = SECTION;
+
+const THIRD: usize = 2 * SECTION;
+
+const FOURTH: usize = 3 * SECTION;
+
+// Where the first-order part's four start.
+const FIRST: usize = SECTION * MAX_SECTIONS;
+
 // How many numbers a cascade has.
-const NUMBERS: usize = 32;
+const NUMBERS: usize = FIRST + 4;
 
 // How many counts either kind of record has.
 pub const COUNTS: usize = 3;
@@ -53,7 +67,7 @@ pub fn fits(numbers: &[f64], counts: &[usize]) -> bool
 
 // The section whose numbers stand from place `at` on.
 fn section_at(numbers: &[f64], at: usize) -> Section
-    requires { ⌜ (at ≤ 21) × (length (now numbers) ≡ 32) ⌝ }
+    requires { ⌜ (at ≤ 3 * sectionPlaces) × (length (now numbers) ≡ cascadeLength) ⌝ }
     ensures { λ r. ⌜ sectionView r ≡ sectionAt (now (numbers .entry)) at ⌝ }
 {
     Section {
@@ -69,26 +83,26 @@ fn section_at(numbers: &[f64], at: usize) -> Section
 
 // The first-order part, which stands behind the sections.
 fn first_at(numbers: &[f64]) -> FirstOrder
-    requires { ⌜ length (now numbers) ≡ 32 ⌝ }
-    ensures { λ r. ⌜ firstView r ≡ firstAt (now (numbers .entry)) 28 ⌝ }
+    requires { ⌜ length (now numbers) ≡ cascadeLength ⌝ }
+    ensures { λ r. ⌜ firstView r ≡ firstAt (now (numbers .entry)) sectionsPlaces ⌝ }
 {
     FirstOrder {
-        b0: numbers[28],
-        b1: numbers[29],
-        a1: numbers[30],
-        w: numbers[31],
+        b0: numbers[FIRST],
+        b1: numbers[FIRST + 1],
+        a1: numbers[FIRST + 2],
+        w: numbers[FIRST + 3],
     }
 }
 
 // The cascade that slices with its places hold.
 fn assembled(numbers: &[f64], counts: &[usize]) -> Cascade
-    requires { ⌜ (length (now numbers) ≡ 32) × (length (now counts) ≡ 3) ⌝ }
+    requires { ⌜ (length (now numbers) ≡ cascadeLength) × (length (now counts) ≡ countPlaces) ⌝ }
     ensures { λ r. ⌜ cascadeView r ≡ cascadeAt (now (numbers .entry)) (now (counts .entry)) ⌝ }
 {
     let s0 = section_at(numbers, 0);
-    let s1 = section_at(numbers, 7);
-    let s2 = section_at(numbers, 14);
-    let s3 = section_at(numbers, 21);
+    let s1 = section_at(numbers, SECOND);
+    let s2 = section_at(numbers, THIRD);
+    let s3 = section_at(numbers, FOURTH);
     let first = first_at(numbers);
     Cascade {
         sections: [s0, s1, s2, s3],
@@ -101,7 +115,7 @@ fn assembled(numbers: &[f64], counts: &[usize]) -> Cascade
 
 // A section's numbers, into the places from `at` on.
 fn put_section(s: Section, numbers: &mut [f64], at: usize)
-    requires { ⌜ (at ≤ 21) × (length (now numbers) ≡ 32) ⌝ }
+    requires { ⌜ (at ≤ 3 * sectionPlaces) × (length (now numbers) ≡ cascadeLength) ⌝ }
     ensures { λ _. ⌜ now (numbers .exit) ≡ spliced (now (numbers .entry)) at (sectionNumbers (sectionView s)) ⌝ }
 {
     numbers[at] = s.b0;
@@ -114,30 +128,30 @@ fn put_section(s: Section, numbers: &mut [f64], at: usize)
 }
 
 // The numbers of four sections, in the first places.
-fn put_sections(sections: [Section; Cascade::MAX_SECTIONS], numbers: &mut [f64])
-    requires { ⌜ length (now numbers) ≡ 32 ⌝ }
-    ensures { λ _. ⌜ now (numbers .exit) ≡ sectionsNumbers (map sectionView sections) ++ drop 28 (now (numbers .entry)) ⌝ }
+fn put_sections(sections: [Section; MAX_SECTIONS], numbers: &mut [f64])
+    requires { ⌜ length (now numbers) ≡ cascadeLength ⌝ }
+    ensures { λ _. ⌜ now (numbers .exit) ≡ sectionsNumbers (map sectionView sections) ++ drop sectionsPlaces (now (numbers .entry)) ⌝ }
 {
     put_section(sections[0], numbers, 0);
-    put_section(sections[1], numbers, 7);
-    put_section(sections[2], numbers, 14);
-    put_section(sections[3], numbers, 21);
+    put_section(sections[1], numbers, SECOND);
+    put_section(sections[2], numbers, THIRD);
+    put_section(sections[3], numbers, FOURTH);
 }
 
 // The first-order part's numbers, behind the sections.
 fn put_first(p: FirstOrder, numbers: &mut [f64])
-    requires { ⌜ length (now numbers) ≡ 32 ⌝ }
-    ensures { λ _. ⌜ now (numbers .exit) ≡ spliced (now (numbers .entry)) 28 (firstNumbers (firstView p)) ⌝ }
+    requires { ⌜ length (now numbers) ≡ cascadeLength ⌝ }
+    ensures { λ _. ⌜ now (numbers .exit) ≡ spliced (now (numbers .entry)) sectionsPlaces (firstNumbers (firstView p)) ⌝ }
 {
-    numbers[28] = p.b0;
-    numbers[29] = p.b1;
-    numbers[30] = p.a1;
-    numbers[31] = p.w;
+    numbers[FIRST] = p.b0;
+    numbers[FIRST + 1] = p.b1;
+    numbers[FIRST + 2] = p.a1;
+    numbers[FIRST + 3] = p.w;
 }
 
 // Three counts into slices of three places.
 fn set_counts(counts: &mut [usize], n0: usize, n1: usize, n2: usize)
-    requires { ⌜ length (now counts) ≡ 3 ⌝ }
+    requires { ⌜ length (now counts) ≡ countPlaces ⌝ }
     ensures { λ _. ⌜ now (counts .exit) ≡ n0 ∷ n1 ∷ n2 ∷ [] ⌝ }
 {
     counts[0] = n0;
@@ -147,7 +161,7 @@ fn set_counts(counts: &mut [usize], n0: usize, n1: usize, n2: usize)
 
 // A cascade into slices that have its places.
 fn put_cascade(c: Cascade, numbers: &mut [f64], counts: &mut [usize])
-    requires { ⌜ (length (now numbers) ≡ 32) × (length (now counts) ≡ 3) ⌝ }
+    requires { ⌜ (length (now numbers) ≡ cascadeLength) × (length (now counts) ≡ countPlaces) ⌝ }
     ensures { λ _. ⌜ (now (numbers .exit) ≡ cascadeNumbers (cascadeView c)) × (now (counts .exit) ≡ cascadeCounts (cascadeView c)) ⌝ }
 {
     let sections = c.sections;
@@ -170,8 +184,8 @@ pub fn read(numbers: &[f64], counts: &[usize]) -> Cascade
 
 // Three counts, and true; or false and the slice as it was, where it does not have three places.
 pub fn put_counts(counts: &mut [usize], n0: usize, n1: usize, n2: usize) -> bool
-    ensures { λ r. ⌜ (r ≡ eqb (length (now (counts .entry))) 3)
-        × (now (counts .exit) ≡ cond (eqb (length (now (counts .entry))) 3) (n0 ∷ n1 ∷ n2 ∷ []) (now (counts .entry))) ⌝ }
+    ensures { λ r. ⌜ (r ≡ eqb (length (now (counts .entry))) countPlaces)
+        × (now (counts .exit) ≡ cond (eqb (length (now (counts .entry))) countPlaces) (n0 ∷ n1 ∷ n2 ∷ []) (now (counts .entry))) ⌝ }
 {
     if counts.len() != COUNTS {
         return false;

@@ -5,6 +5,7 @@ ghost use Rattle.limits.specs.Limits.{maxTaps};
 ghost use Rattle.design_cascade.specs.LowPass.{butterworthLp, butterworthHp, chebyshev1Lp, chebyshev2Lp};
 ghost use Rattle.design_cascade.specs.BandPass.{butterworthBp};
 ghost use Rattle.c_designs.specs.Designs.{designCall, madeCall, firCall};
+use c_designs::LAST_WINDOW;
 use c_designs::hand_out;
 use c_designs::hand_out_taps;
 use c_designs::window_of;
@@ -127,7 +128,7 @@ pub extern "C" fn pulse_design_fir_lp(
     ensures { λ r. ⌜ record { refusal = r; taps = now (taps .exit); samples = now (samples .exit); counts = now (counts .exit) }
         ≡ firCall (now (taps .entry)) (now (samples .entry)) (now (counts .entry)) n cutoff window ⌝ }
 {
-    if window > 3 {
+    if window > LAST_WINDOW {
         return runs::BAD_CALL;
     }
     hand_out_taps(

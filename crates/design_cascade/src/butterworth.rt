@@ -1,5 +1,5 @@
 // 000 butterworth.rs: the Butterworth low pass, high pass and band pass. Its checks stand in the crate design_checks, its pole
-// formulas in the crates design_poles and bandpass, and its sections in the crate sections.
+// formulas in the crates design_poles and design_bandpass, and its sections in the crate sections.
 ghost use mathlib.Core.Path.{_≡_};
 ghost use mathlib.Core.List.{map};
 ghost use Prim.Native.Nat.{_<_, _≤_, _/_};

@@ -13,10 +13,7 @@ use Rattle.design_checks.specs.Checks.{validateParams, validateChebyshev
 
 -- parameters that pass have a good order: it is tested first, whatever is tested after it
 first-passed : (b : Bool) (rest : ℕ) → cond b InvalidOrder rest ≡ 0 → b ≡ false
-first-passed true rest e = absurd (no e)
-  where
-    no : _≡_ {A = ℕ} 1 0 → ⊥
-    no e = omega arith
+first-passed true rest e = absurd (omega (arith, e))
 first-passed false rest e = refl
 
 pub good-params : (cutoff rate : Float) (n : ℕ) → validateParams cutoff rate n ≡ 0 → (0 < n) × (n ≤ maxOrder)

@@ -66,12 +66,9 @@ frac-exact m (negsuc k) small deep =
     let r-lt : r < 2 ^ 53 = lt-of-le-of-lt (mod-le (m * 1) (2 ^ suc k)) (lt-of-le-of-lt (le-of-eq (mul-one m)) small) in
     let k-le : suc k ≤ 1074 = pow-le-back (suc k) 1074 deep in
     round-exact binary64 false r (2 ^ suc k) r (1074 - suc k) (pow-pos (suc k)) r-lt
-    (lt-of-lt-of-le (shl-lt 53 (1074 - suc k) r-lt) (pow-mono (room k)))
+    (lt-of-lt-of-le (shl-lt 53 (1074 - suc k) r-lt) (pow-mono {j = 2098} (omega arith)))
     (ap (λ (z : ℕ). r * 2 ^ z) (sym (back 1074 (suc k) k-le)) ∙ ap (λ (z : ℕ). r * z) (pow-add 2 (1074 - suc k) (suc k))
     ∙ sym (mul-assoc r (2 ^ (1074 - suc k)) (2 ^ suc k)))
-  where
-    room : (k : ℕ) → 53 + (1074 - suc k) ≤ 2098
-    room k = omega arith
 
 -- A / D less w, brought to the denominator D * d
 taken-off : (A w D d b : ℕ) → b ≡ w * d * D → (A * d - b) * D ≡ (A - w * D) * (D * d)

@@ -1,5 +1,4 @@
 -- 01: "'Nearest' means nearest whole number, ties to even, a zero being +0." A whole number has no sign of zero, and as a float its zero is +0.
---
 use mathlib.Core.Path.{_≡_}
 use mathlib.Core.Logic.{_⊎_}
 use mathlib.Core.Bool.{Bool, cond}

@@ -27,10 +27,7 @@ units-zero f s k = ap (λ (z : ℕ). cond (ltb z (overflow f)) (fin s 0 (pos 0))
 
 is-zero : (q u L : ℕ) → 0 < u → q * u + q * u ≤ 0 * L + 0 * L + u → q ≡ 0
 is-zero zero u L h g = refl
-is-zero (suc q) u L h g = absurd (no (q * u) u h (omega arith))
-  where
-    no : (x u : ℕ) → 0 < u → x + x + u + u ≤ u → ⊥
-    no x u h g = omega arith
+is-zero (suc q) u L h g = absurd (omega arith)
 
 pub round-zero : (f : Format) (s : Bool) (c : ℕ) → 0 < c → round f s 0 c ≡ fin s 0 (pos 0)
 round-zero f s c C =
@@ -115,12 +112,9 @@ add-correct f (fin true m e) (fin false n d) =
     let b = n * up d * down e in
     more f a b (down e * down d) (c-pos e d) (ltb a b) (ltb b a) (ltb→lt a b) (nltb→le a b) (ltb→lt b a) (nltb→le b a)
 
-sub-is : (f : Format) (x y : Float) → sub f x y ≡ add f x (neg y)
-unfolding sub
-sub-is f x y = refl
-
 pub sub-correct : (f : Format) (x y : Float) → Difference f x y (sub f x y)
-sub-correct f x y = subst (λ (r : Float). Difference f x y r) (sym (sub-is f x y)) (add-correct f x (neg y))
+unfolding sub
+sub-correct f x y = add-correct f x (neg y)
 
 -- ---- products and quotients
 at-suc : (X : Type 0) (m : ℕ) (x y : X) → cond (eqb (suc m) 0) x y ≡ y

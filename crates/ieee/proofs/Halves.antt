@@ -43,7 +43,4 @@ some-left m b (suc e) h p l = omega arith
 
 pub one-up : (m b e : ℕ) → m * 2 ^ e ≡ b * 2 ^ 52 → 1 ≤ e → (m + m) * 2 ^ (e - 1) ≡ b * 2 ^ 52
 one-up m b zero h p = absurd (omega arith)
-one-up m b (suc e) h p = ap (λ (z : ℕ). (m + m) * 2 ^ z) (omega arith) ∙ twice m (2 ^ e) ∙ ap (λ (z : ℕ). m * z) (sym (pow-succ' 2 e)) ∙ h
-  where
-    twice : (m z : ℕ) → (m + m) * z ≡ m * (2 * z)
-    twice m z = omega arith
+one-up m b (suc e) h p = ap (λ (z : ℕ). (m + m) * 2 ^ z) {y = e} (omega arith) ∙ (omega arith) ∙ ap (λ (z : ℕ). m * z) (sym (pow-succ' 2 e)) ∙ h

@@ -58,10 +58,7 @@ module _ (p : ℕ) (P : 2 ≤ p) where
 
 one-off : (x U : ℕ) → 0 < x → (x - 1) * U + U ≡ x * U
 one-off zero U h = absurd (lt-irrefl 0 h)
-one-off (suc x) U h = ap (λ (z : ℕ). z * U + U) (less x) ∙ (omega arith)
-  where
-    less : (x : ℕ) → suc x - 1 ≡ x
-    less x = omega arith
+one-off (suc x) U h = ap (λ (z : ℕ). z * U + U) {y = x} (omega arith) ∙ (omega arith)
 
 -- the middle between the largest value and the infinity, twice and in smallest values, is the edge
 double-less : (x y O : ℕ) → y ≡ 2 * x → 0 < x → (U : ℕ) → x * U ≡ O → (y - 1) * U ≡ (x - 1) * U + O
@@ -70,6 +67,9 @@ double-less (suc x) y O e h U o = ap (λ (z : ℕ). (z - 1) * U) e ∙ ap (λ (z
   where
     rows : (x U : ℕ) → (x + suc x) * U ≡ (suc x - 1) * U + suc x * U
     rows x U = add-mul x (suc x) U ∙ ap (λ (z : ℕ). z * U + suc x * U) (omega arith)
+
+join : (a b c d e m : ℕ) → a * c ≡ m * e → d * c ≡ m * b → a * b * c ≡ d * e * c
+join a b c d e m x y = omega (arith, ap (λ (z : ℕ). z * b) x, ap (λ (z : ℕ). z * e) y)
 
 module _ (f : Format) where
   abbrev U : ℕ
@@ -114,9 +114,6 @@ module _ (f : Format) where
         (join (edgeNum f) (midDen (inf s) w) (2 * 2 ^ low f) (midNum f (inf s) w) (edgeDen f) (top + overflow f) edge-value
         (mid-at (inf s) w (overflow f) top (inf-is s) wv ∙ ap (λ (z : ℕ). z * midDen (inf s) w) (add-comm (overflow f) top)))))
         (n .fromBelow w held (signed s w top (2 ^ low f) v) lt)
-      where
-        join : (a b c d e m : ℕ) → a * c ≡ m * e → d * c ≡ m * b → a * b * c ≡ d * e * c
-        join a b c d e m x y = omega (arith, ap (λ (z : ℕ). z * b) x, ap (λ (z : ℕ). z * e) y)
 
     -- a finite value that is nearest to a number from the edge on would be the largest, and even
     no-finite : (r : Float) → Nearest f ρ s r → Smaller f r (inf s) → ρ .atLeast (edgeNum f) (edgeDen f) → ⊥
@@ -148,9 +145,6 @@ module _ (f : Format) where
       where
         le-of-not-lt : (a b : ℕ) → (a < b → ⊥) → b ≤ a
         le-of-not-lt a b h = elim (or-lt a b) [ inl l ↦ l | inr g ↦ absurd (h g) ]
-
-        join : (a b c d e m : ℕ) → a * c ≡ m * e → d * c ≡ m * b → a * b * c ≡ d * e * c
-        join a b c d e m x y = omega (arith, ap (λ (z : ℕ). z * b) x, ap (λ (z : ℕ). z * e) y)
 
     pub overflows : (r : Float) → Nearest f ρ s r → ρ .atLeast (edgeNum f) (edgeDen f) → r ≡ inf s
     overflows nan n h = absurd (n .sign)

@@ -32,10 +32,6 @@ unfolding ofFields
 under-ones t x h = cond-no (eqb (suc x) 2047) (cond (eqb t 0) (inf false) nan) (odd 53 false (2 ^ 52 + t) x 1074)
     (not-T (eqb (suc x) 2047) (λ (u : T (eqb (suc x) 2047)). omega (arith, eqb→eq (suc x) 2047 u)))
 
-at-zero : (t : ℕ) → ofFields binary64 false 0 t ≡ odd 53 false t 0 1074
-unfolding ofFields
-at-zero t = refl
-
 -- the pattern of the infinity: 2047 * 2 ^ 52
 no-sign : (b : ℕ) → b < 2047 * 2 ^ 52 → b < 2 ^ 63
 no-sign b h = omega arith
@@ -53,11 +49,11 @@ normal b h k =
     ∙ under-ones (b % 2 ^ 52) (b / 2 ^ 52 - 1) (omega arith)
 
 pub subnormal : (b : ℕ) → b < 2 ^ 52 → ofBits binary64 b ≡ odd 53 false b 0 1074
+unfolding ofFields
 subnormal b h =
     plus b (omega arith)
-    ∙ ap (λ (x : ℕ). ofFields binary64 false x (b % 2 ^ 52)) (omega arith)
+    ∙ ap (λ (x : ℕ). ofFields binary64 false x (b % 2 ^ 52)) {x = b / 2 ^ 52} {y = 0} (omega arith)
     ∙ ap (λ (x : ℕ). ofFields binary64 false 0 x) (mod-eq-of-lt h)
-    ∙ at-zero b
 
 -- ---- the pattern that the steps give
 pub made-hi : (k q : ℕ) → q < 2 ^ 53 → k < 2000 → k * 2 ^ 52 + q < 2047 * 2 ^ 52
@@ -121,16 +117,13 @@ finite-root x b r e B I s g = go (ltb b (2 ^ 52)) (ltb→lt b (2 ^ 52)) (nltb→
         (subst (λ (n : ℕ). Rooted n r) (sym (scaled m k (omega (arith, h tt)))) (g (h tt)))
 
 -- the pattern of what is above zero is above zero
-zero-bits : ofBits binary64 0 ≡ fin false 0 (pos 0)
-unfolding ofBits
-zero-bits = refl
-
 not-above : T (lt (fin false 0 (pos 0)) (fin false 0 (pos 0))) → ⊥
 unfolding lt
 not-above t = t
 
 pub bits-pos : (x : Float) (b : ℕ) → ofBits binary64 b ≡ x → T (lt (fin false 0 (pos 0)) x) → 0 < b
-bits-pos x zero e h = absurd (not-above (subst (λ (z : Float). T (lt (fin false 0 (pos 0)) z)) (sym e ∙ zero-bits) h))
+unfolding ofBits
+bits-pos x zero e h = absurd (not-above (subst (λ (z : Float). T (lt (fin false 0 (pos 0)) z)) (sym e) h))
 bits-pos x (suc b) e h = zero-lt-suc b
 
 -- a pattern whose magnitude is at most the infinity's is no NaN's, and so is what the steps make

@@ -16,12 +16,9 @@ halved w (suc k) e h =
     let t : w ≡ 2 * 2 ^ k = e ∙ pow-succ' 2 k in
     ((k, omega arith), omega arith)
 
-rest : (a b : ℕ) → b ≤ a → a ≡ a - b + b
-rest a b h = omega arith
-
 -- a digit 1, and a digit 0
 pub taken : (M q y w h : ℕ) → w ≡ 2 * h → y * w + q * q ≡ M → q + q + h ≤ y + y → (y + y - (q + q + h)) * h + (q + h) * (q + h) ≡ M
-taken M q y w h t s l = let r = rest (y + y) (q + q + h) l in
+taken M q y w h t s l = let r : y + y ≡ y + y - (q + q + h) + (q + q + h) = omega arith in
     omega (arith, ap (λ (z : ℕ). z * h) r, subst (λ (z : ℕ). y * z + q * q ≡ M) t s)
 
 pub passed : (M q y w h : ℕ) → w ≡ 2 * h → y * w + q * q ≡ M → (y + y) * h + q * q ≡ M

@@ -100,7 +100,8 @@ module _ (f : Format) (s : Bool) (ρ : Real) (cut : Cut ρ) (r r' : Float) (n : 
       let up = next-up (prec f) (e .c) (e .k) (e' .c) (e' .k) P (e .leading) (e' .digits)
       (order (num f r) (den r) (num f r') (den r') L R R' (pow-pos (low f)) (e .value) (e' .value) lt) in
       let W = suc (e .c) * 2 ^ e .k in
-      elim (eq-or-lt-of-le (le-trans (le-of-eq (row (e .c) (2 ^ e .k))) up)) [
+      let next : W ≤ R' = omega arith in
+      elim (eq-or-lt-of-le next) [
         | inl same ↦ not-next (prec f) (e .c) (e .k) (e' .c) (e' .k) (e .half) (e' .half) (two f) (e .digits) (e' .digits) (e .leading) (e .even) (e' .even)
             same
         | inr gap ↦
@@ -122,9 +123,6 @@ module _ (f : Format) (s : Bool) (ρ : Real) (cut : Cut ρ) (r r' : Float) (n : 
             (omega arith))
             c
       ]
-    where
-      row : (c U : ℕ) → suc c * U ≡ c * U + U
-      row c U = omega arith
 
 -- ---- two values of one size and sign are one value
 toBits-is : (f : Format) (s : Bool) (m : ℕ) (e : ℤ) (n : ℕ) → m * up e * 2 ^ low f ≡ n * down e

@@ -137,14 +137,11 @@ parts-from (fin false (suc M) E) q a l f v lo hi =
     ∙ ap (λ (z : ℕ). z * 2 ^ 1074) (sym (mul-one (suc M))) in
     pair
     (unique (fin false (suc M) (minus 0 s)) (odd 53 false q 1022 1074) false (q * 2 ^ 1022) (2 ^ 1074) (pow-pos 1074)
-    (significand-fits (suc M) E s P (le-trans (trim (size (suc M)) few) (lit≤ tt)) f)
+    (significand-fits (suc M) E s P (omega arith) f)
     (odd-fits binary64 53 false q 1022 hi (le-of-lt hi) (lt-of-lt-of-le (shl-lt 53 1022 hi) (lit≤ tt)))
     (rescale (fin false (suc M) (minus 0 s)) false (suc M * 1) (2 ^ s) (q * 2 ^ 1022) (2 ^ 1074) (pow-pos s) H (refl, minus-val (suc M) 0 s))
     (odd-sign 53 false q 1022 1074))
     (c .place s (digits (suc M) (c .u) q (c .v) P lo hi (c .same)))
-  where
-    trim : (n : ℕ) → n ≤ 53 → n - 1 ≤ 52
-    trim n h = omega arith
 
 -- ---- from the bit pattern W of x
 above : (x : Float) → T (positive x) → Above x

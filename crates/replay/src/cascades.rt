@@ -10,6 +10,14 @@ use crate::compare::meets_block;
 use crate::compare::meets_refusal;
 use crate::compare::places;
 use crate::compare::word;
+use crate::kinds::BANDPASS;
+use crate::kinds::CBLOCK;
+use crate::kinds::CHEBYSHEV1;
+use crate::kinds::CHEBYSHEV2;
+use crate::kinds::CRESET;
+use crate::kinds::CSTEP;
+use crate::kinds::HIGHPASS;
+use crate::kinds::LOWPASS;
 use cascade::Cascade;
 use design_cascade::CascadeDesignResult;
 use design_request::DesignRequest;
@@ -82,10 +90,10 @@ fn what(asked: &[u64]) -> Wanted {
 // The design by its own function.
 fn direct(kind: usize, w: Wanted) -> CascadeDesignResult {
     match kind {
-        0 => design_cascade::design_butterworth_lp(w.order, w.a, w.b),
-        1 => design_cascade::design_butterworth_hp(w.order, w.a, w.b),
-        2 => design_cascade::design_butterworth_bp(w.order, w.a, w.b, w.c),
-        3 => design_cascade::design_chebyshev1_lp(w.order, w.a, w.b, w.c),
+        LOWPASS => design_cascade::design_butterworth_lp(w.order, w.a, w.b),
+        HIGHPASS => design_cascade::design_butterworth_hp(w.order, w.a, w.b),
+        BANDPASS => design_cascade::design_butterworth_bp(w.order, w.a, w.b, w.c),
+        CHEBYSHEV1 => design_cascade::design_chebyshev1_lp(w.order, w.a, w.b, w.c),
         _ => design_cascade::design_chebyshev2_lp(w.order, w.a, w.b, w.c),
     }
 }
@@ -93,23 +101,23 @@ fn direct(kind: usize, w: Wanted) -> CascadeDesignResult {
 // The same design as a request.
 fn as_request(kind: usize, w: Wanted) -> DesignRequest {
     match kind {
-        0 => DesignRequest::LowPass {
+        LOWPASS => DesignRequest::LowPass {
             order: w.order,
             cutoff: w.a,
             sample_rate: w.b,
         },
-        1 => DesignRequest::HighPass {
+        HIGHPASS => DesignRequest::HighPass {
             order: w.order,
             cutoff: w.a,
             sample_rate: w.b,
         },
-        2 => DesignRequest::BandPass {
+        BANDPASS => DesignRequest::BandPass {
             order: w.order,
             low: w.a,
             high: w.b,
             sample_rate: w.c,
         },
-        3 => DesignRequest::Chebyshev1 {
+        CHEBYSHEV1 => DesignRequest::Chebyshev1 {
             order: w.order,
             cutoff: w.a,
             ripple_db: w.b,
@@ -178,10 +186,10 @@ pub(crate) fn request(
     agreed: &mut bool,
 ) -> Cascade {
     match kind {
-        0..=4 => design(kind, asked, stored, agreed),
-        5 => step(cascade, asked, stored, agreed),
-        6 => block(cascade, asked, stored, agreed),
-        7 => reset(cascade, stored, agreed),
+        LOWPASS..=CHEBYSHEV2 => design(kind, asked, stored, agreed),
+        CSTEP => step(cascade, asked, stored, agreed),
+        CBLOCK => block(cascade, asked, stored, agreed),
+        CRESET => reset(cascade, stored, agreed),
         _ => cascade,
     }
 }

@@ -1,18 +1,25 @@
 // The requests of the elementary functions.
 use crate::compare::float;
 use crate::compare::meet_float;
+use crate::kinds::COS;
+use crate::kinds::COSH;
+use crate::kinds::EXP;
+use crate::kinds::LN;
+use crate::kinds::SIN;
+use crate::kinds::SINH;
 use crate::kinds::SQRT;
+use crate::kinds::TAN;
 
 fn answer(kind: usize, x: f64) -> f64 {
     match kind {
-        13 => ieee::sqrt(x),
-        14 => elementary::sin(x),
-        15 => elementary::cos(x),
-        16 => elementary::tan(x),
-        17 => elementary::exp(x),
-        18 => logarithm::ln(x),
-        19 => hyperbolic::sinh(x),
-        20 => hyperbolic::cosh(x),
+        SQRT => ieee::sqrt(x),
+        SIN => elementary::sin(x),
+        COS => elementary::cos(x),
+        TAN => elementary::tan(x),
+        EXP => elementary::exp(x),
+        LN => logarithm::ln(x),
+        SINH => hyperbolic::sinh(x),
+        COSH => hyperbolic::cosh(x),
         _ => elementary::pow10(x),
     }
 }

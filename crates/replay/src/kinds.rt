@@ -1,13 +1,53 @@
 // The kinds of request by number, how many there were of each, and the report.
 use libc::STDOUT_FILENO;
 
-// How many kinds there are: those of the cascade first, those of the tap record from FIR on, the elementary functions
-// from SQRT on.
-pub(crate) const KINDS: usize = 22;
+// The cascade's: its designs, steps, blocks and resets.
+pub(crate) const LOWPASS: usize = 0;
 
+pub(crate) const HIGHPASS: usize = 1;
+
+pub(crate) const BANDPASS: usize = 2;
+
+pub(crate) const CHEBYSHEV1: usize = 3;
+
+pub(crate) const CHEBYSHEV2: usize = 4;
+
+pub(crate) const CSTEP: usize = 5;
+
+pub(crate) const CBLOCK: usize = 6;
+
+pub(crate) const CRESET: usize = 7;
+
+// The tap record's: its design, ready-made taps, steps, blocks and resets.
 pub(crate) const FIR: usize = 8;
 
+pub(crate) const TAPS: usize = 9;
+
+pub(crate) const FSTEP: usize = 10;
+
+pub(crate) const FBLOCK: usize = 11;
+
+pub(crate) const FRESET: usize = 12;
+
+// The elementary functions, of which pow10 is the last.
 pub(crate) const SQRT: usize = 13;
+
+pub(crate) const SIN: usize = 14;
+
+pub(crate) const COS: usize = 15;
+
+pub(crate) const TAN: usize = 16;
+
+pub(crate) const EXP: usize = 17;
+
+pub(crate) const LN: usize = 18;
+
+pub(crate) const SINH: usize = 19;
+
+pub(crate) const COSH: usize = 20;
+
+// How many kinds there are.
+pub(crate) const KINDS: usize = 22;
 
 // The bytes of a kind's name, with a space behind it.
 const WIDTH: usize = 11;

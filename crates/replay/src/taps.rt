@@ -10,6 +10,11 @@ use crate::compare::meets_block;
 use crate::compare::meets_refusal;
 use crate::compare::places;
 use crate::compare::word;
+use crate::kinds::FBLOCK;
+use crate::kinds::FIR;
+use crate::kinds::FRESET;
+use crate::kinds::FSTEP;
+use crate::kinds::TAPS;
 use design_fir::WindowType;
 use design_request::DesignRequest;
 use fir::FirDesignResult;
@@ -122,11 +127,11 @@ pub(crate) fn request(
     agreed: &mut bool,
 ) -> TapRecord {
     match kind {
-        8 => design(asked, stored, agreed),
-        9 => ready_made(asked, stored, agreed),
-        10 => step(filter, asked, stored, agreed),
-        11 => block(filter, asked, stored, agreed),
-        12 => reset(filter, stored, agreed),
+        FIR => design(asked, stored, agreed),
+        TAPS => ready_made(asked, stored, agreed),
+        FSTEP => step(filter, asked, stored, agreed),
+        FBLOCK => block(filter, asked, stored, agreed),
+        FRESET => reset(filter, stored, agreed),
         _ => filter,
     }
 }

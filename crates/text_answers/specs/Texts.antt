@@ -15,7 +15,7 @@ fitting output at n = leb (at + n) (length output)
 unfoldable pub put : List ℕ → ℕ → List ℕ → List ℕ
 put output at text = cond (fitting output at (length text)) (take at output ++ (text ++ drop (at + length text) output)) output
 
--- the place after it: past the output's end where it does not fit, and so does nothing more
+-- the place after n bytes that were put; where they do not fit, a place past the output's end, from which on nothing fits
 unfoldable pub placeAfter : List ℕ → ℕ → ℕ → ℕ
 placeAfter output at n = cond (fitting output at n) (at + n) (suc (length output))
 

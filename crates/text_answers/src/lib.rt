@@ -1,5 +1,5 @@
 // The words and numbers of request and answer lines, as PROTOCOL.md has them: the tokens of a line (crate text_tokens), counts
-// and floats in their written forms (crates text_decimals and numbers), and the bytes of an answer.
+// and floats in their written forms (crates text_decimals and text_numbers), and the bytes of an answer.
 mod print;
 
 pub use print::put_bytes;

@@ -7,11 +7,12 @@ use native.Mathlib.Nat.{le-trans, le-of-eq, mul-assoc, mul-comm, mul-right-comm,
 use native.Mathlib.Nat.{one-le-pow, pow-succ'}
 use native.Mathlib.Omega.{arith}
 use lib.Dec.{leb, ltb}
-use lib.IntN.{ℤ, pos, negsuc}
+use lib.IntN.{ℤ, pos}
 use lib.ListN.{length}
 use lib.Pow.{pow-pos}
 use lib.Ieee.{Float, nan, inf, fin, Format, binary64, up, down, div, ofInt}
 use lib.Ieee.Exact.{HasValue}
+use lib.Ieee.Fits.{down-pos}
 use lib.Ieee.Back.{round-whole}
 use borrow.Author.Tests.{leb-true, ltb-true}
 use Rattle.ieee.specs.Nearest.{Nearest, fraction, midNum, midDen}
@@ -49,10 +50,6 @@ nearest-same f p q p′ q′ s r h h′ e n = record {
 }
 
 -- ---- the division
-down-pos : (e : ℤ) → 0 < down e
-down-pos (pos k) = omega arith
-down-pos (negsuc k) = pow-pos (suc k)
-
 ten : (k : ℕ) → 5 ^ k * 2 ^ k ≡ 10 ^ k
 ten zero = refl
 ten (suc k) = rw (pow-succ', pow-succ', pow-succ') (mul-mul-mul-comm 5 (5 ^ k) 2 (2 ^ k) ∙ ap (λ (z : ℕ). 10 * z) (ten k))

@@ -81,15 +81,12 @@ value-less base c n (d ∷ ds) (suc k) h p l =
 abbrev pub limit : ℕ
 limit = 10 ^ 15
 
-capped-step : (n d : ℕ) → min (min n limit * 10 + d) limit ≡ min (n * 10 + d) limit
-capped-step n d = omega arith
-
 -- a cap before more digits is a cap after them
 pub capped : (n : ℕ) (ds : List ℕ) → min (valueAfter 10 (min n limit) ds) limit ≡ min (valueAfter 10 n ds) limit
 unfolding valueAfter
 capped n [] = omega arith
 capped n (d ∷ ds) =
-    sym (capped (min n limit * 10 + digit d) ds) ∙ ap (λ (z : ℕ). min (valueAfter 10 z ds) limit) (capped-step n (digit d)) ∙ capped (n * 10 + digit d) ds
+    sym (capped (min n limit * 10 + digit d) ds) ∙ ap (λ (z : ℕ). min (valueAfter 10 z ds) limit) (omega arith) ∙ capped (n * 10 + digit d) ds
 
 abbrev pub Capping : ℕ → List ℕ → ℕ → ℕ → Type 0
 Capping n ds value i = (value ≤ limit) × (min (valueAfter 10 value (drop i ds)) limit ≡ min (valueAfter 10 n ds) limit)

@@ -1,5 +1,6 @@
 -- `c_designs::hand_out` meets its contract.
-use Rattle.c_calls.proofs.Laws.{passed, failed, numbers-are, counts-are}
+use Rattle.lists.proofs.Tests.{passed, failed}
+use Rattle.c_calls.proofs.Laws.{numbers-are, counts-are}
 use Rattle.c_designs.proofs.Laws.{design-unfit, design-refused, design-accepted}
 use borrow.Author.Needs.{needs}
 use Rattle.c_designs.proofs.hand_out.Statement.{statement}

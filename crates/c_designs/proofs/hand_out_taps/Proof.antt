@@ -1,25 +1,20 @@
 -- `c_designs::hand_out_taps` meets its contract.
 use mathlib.Core.Path.{_≡_, sym, _∙_}
-use mathlib.Core.List.{_∷_, []}
-use lib.Dec.{eqb}
 use borrow.Author.Tests.{eq-eqb}
-use Rattle.lists.proofs.Tests.{cond-true}
 use lib.ListN.{length}
+use Rattle.lists.proofs.Tests.{passed, failed}
 use Rattle.limits.specs.Limits.{maxTaps}
 use Rattle.fir.specs.View.{madeView}
+use Rattle.c_layout.specs.Layout.{countPlaces}
 use Rattle.c_calls.specs.Kinds.{tapsCounts}
-use Rattle.c_calls.proofs.Laws.{passed, failed}
 use Rattle.c_designs.proofs.Laws.{taps-lengths, made-unfit, made-refused, made-accepted}
 use Rattle.lists.proofs.Copies.{copied-same}
 use borrow.Author.Needs.{needs}
 use Rattle.c_designs.proofs.hand_out_taps.Statement.{statement}
 use Rattle.c_designs.proofs.hand_out_taps.Tie as tie
 
-taps-are : (s : tie.Start) → length (s .args .m .filter .taps) ≡ maxTaps
-taps-are s = search needs
-
-samples-are : (s : tie.Start) → length (s .args .m .filter .samples) ≡ maxTaps
-samples-are s = search needs
+places : (s : tie.Start) → (length (s .args .m .filter .taps) ≡ maxTaps) × (length (s .args .m .filter .samples) ≡ maxTaps)
+places s = search needs
 
 returns : tie.Need-returns
 returns c = made-unfit _ _ _ _ (failed (c .before .has-tap-places .ensures) (c .if1 .taken))
@@ -38,11 +33,11 @@ returns-3 c =
     let t = passed (e .before .has-tap-places .ensures) (e .if1 .left) in
     let l = taps-lengths _ _ _ t in
     let cs = start .args .counts .now in
-    let taps-kept = copied1 .copy .ensures ∙ copied-same (f .taps) (start .args .taps .now) (taps-are start ∙ sym (l .0)) in
-    let samples-kept = copied2 .copy2 .ensures ∙ copied-same (f .samples) (start .args .samples .now) (samples-are start ∙ sym (l .1)) in
+    let taps-kept = copied1 .copy .ensures ∙ copied-same (f .taps) (start .args .taps .now) (places start .0 ∙ sym (l .0)) in
+    let samples-kept = copied2 .copy2 .ensures ∙ copied-same (f .samples) (start .args .samples .now) (places start .1 ∙ sym (l .1)) in
     let else2 : tie.Else2 = search in
     made-accepted (madeView (start .args .m)) _ _ _ t (else2 .if2 .left) taps-kept samples-kept
-    (c .before .before .put-counts .ensures .1 ∙ cond-true (eqb (length cs) 3) (f .length ∷ f .held ∷ f .window ∷ []) cs (eq-eqb (length cs) 3 (l .2)))
+    (rw (eq-eqb (length cs) countPlaces (l .2)) at (c .before .before .put-counts .ensures .1))
 
 pub hand-out-taps-spec : {M : Type 1} → statement M
 hand-out-taps-spec =

@@ -1,10 +1,11 @@
 -- `c_layout::fits` meets its contract.
-use mathlib.Core.Path.{_≡_, sym, _∙_}
+use mathlib.Core.Path.{_≡_}
 use mathlib.Core.Bool.{true}
 use native.Mathlib.Omega.{arith}
 use lib.ListN.{length}
-use borrow.Author.Tests.{not-true, not-false, lt-leb, le-leb}
-use Rattle.c_layout.specs.Layout.{cascadePlaces, cascadeFits}
+use borrow.Author.Tests.{lt-leb, le-leb}
+use Rattle.lists.proofs.Tests.{passed, failed}
+use Rattle.c_layout.specs.Layout.{countPlaces, cascadePlaces, cascadeFits}
 use Rattle.c_layout.proofs.Laws.{places-lengths, fits-flagged, fits-last}
 use borrow.Author.Needs.{needs}
 use Rattle.c_layout.proofs.fits.Statement.{statement}
@@ -12,12 +13,12 @@ use Rattle.c_layout.proofs.fits.Tie as tie
 
 returns : tie.Need-returns
 unfolding cascadeFits
-returns c = simp (sym (c .before .has-places .ensures) ∙ not-true _ (c .if1 .taken))
+returns c = simp (failed (c .before .has-places .ensures) (c .if1 .taken))
 
 places : (e : tie.Else1) → cascadePlaces (e .before .before .before .before .args .numbers .now) (e .before .before .before .before .args .counts .now) ≡ true
-places e = sym (e .before .has-places .ensures) ∙ not-false _ (e .if1 .left)
+places e = passed (e .before .has-places .ensures) (e .if1 .left)
 
-three : (e : tie.Else1) → length (e .before .before .before .before .args .counts .now) ≡ 3
+three : (e : tie.Else1) → length (e .before .before .before .before .args .counts .now) ≡ countPlaces
 three e = places-lengths _ _ (places e) .1
 
 shared-slice-read-if2 : tie.Need-shared-slice-read-if2

@@ -2,6 +2,7 @@
 use native.Mathlib.Omega.{arith}
 use lib.ListN.{length}
 use mathlib.Core.Path.{_≡_}
+use Rattle.limits.specs.Limits.{maxSections}
 use Rattle.c_layout.proofs.Places.{sections-written}
 use borrow.Author.Needs.{needs}
 use Rattle.c_layout.proofs.put_sections.Statement.{statement}
@@ -12,7 +13,7 @@ returns c = let after-put-section3 : tie.After-put-section3 = search in
     let after-put-section2 : tie.After-put-section2 = search in
     let after-put-section : tie.After-put-section = search in
     let s : tie.Start = search in
-    let four : length (s .args .t1) ≡ 4 = omega (arith, s .good .0 .1 .0 .1) in
+    let four : length (s .args .t1) ≡ maxSections = omega (arith, s .good .0 .1 .0 .1) in
     sections-written (s .args .numbers .now) (s .args .t1) _ (s .pre) four (after-put-section .put-section .ensures) (after-put-section2 .put-section2 .ensures)
     (after-put-section3 .put-section3 .ensures) (c .before .before .put-section4 .ensures)
 

@@ -1,7 +1,7 @@
 -- `design_checks::validate_chebyshev` meets its contract.
 use mathlib.Core.Path.{_≡_, _∙_, refl, sym}
 use mathlib.Core.Bool.{Bool, true, false, cond}
-use Prim.Native.Nat.{ℕ, suc}
+use Prim.Native.Nat.{ℕ}
 use native.Mathlib.Omega.{arith}
 use lib.Ieee.{Float}
 use Rattle.scalar.specs.Operators.{_⊗_}
@@ -31,13 +31,10 @@ drew-none : (cutoff rate : Float) (n next : ℕ) → validateParams cutoff rate 
 unfolding validateParams
 drew-none cutoff rate n next = go (orderRefused n maxOrder) (rateRefused rate) (cutoffRefused cutoff (rate ⊗ half))
   where
-    none : (d : ℕ) → suc d ≡ 0 → ⊥
-    none d e = omega arith
-
     go : (a b c : Bool) → numbers a b c Accepted ≡ 0 → next ≡ numbers a b c next
-    go true b c h = absurd (none 0 h)
-    go false true c h = absurd (none 2 h)
-    go false false true h = absurd (none 1 h)
+    go true b c h = absurd (omega (arith, h))
+    go false true c h = absurd (omega (arith, h))
+    go false false true h = absurd (omega (arith, h))
     go false false false h = refl
 
 returns : tie.Need-returns

@@ -1,4 +1,5 @@
 -- `design_fir::design_fir_lp` meets its contract.
+use Prim.Native.Nat.{_<_, _≤_}
 use mathlib.Core.Path.{sym, ap, _∙_}
 use Rattle.fir_theory.specs.Fir.{TapsRecord}
 use Rattle.limits.specs.Limits.{maxTaps}
@@ -13,26 +14,21 @@ returns c = let b = c .before in
     let v = b .before .validate-fir in
     fir-refused _ _ _ (v .ensures) (c .if1 .taken) (b .blank .ensures)
 
-windowed-requires : tie.Need-windowed-requires
-windowed-requires c κs = let e = c .before in
-    let s = e .before .before .before in
-    good-fir (s .args .taps) (s .args .cutoff) (sym (e .before .before .validate-fir .ensures) ∙ e .if1 .left)
-
-normalised-requires : tie.Need-normalised-requires
-normalised-requires c κs = let e = c .before .before in
-    let s = e .before .before .before in
-    good-fir (s .args .taps) (s .args .cutoff) (sym (e .before .before .validate-fir .ensures) ∙ e .if1 .left) .1
+good : (e : tie.Else1) → let s : tie.Start = search in (0 < s .args .taps) × (s .args .taps ≤ maxTaps)
+good e = good-fir _ _ (sym (e .before .before .validate-fir .ensures) ∙ e .if1 .left)
 
 returns-2 : tie.Need-returns-2
-returns-2 c = let n = c .before in
-    let e = n .before .before .before in
-    let a = e .before .before .before .args in
-    fir-accepted (a .taps) (a .cutoff) (a .window) (e .before .before .validate-fir .ensures) (e .if1 .left)
-    (ap (λ (r : TapsRecord). r .samples) (e .before .blank .ensures))
-    (taps-done (a .window) (a .taps) maxTaps (a .cutoff) (n .before .windowed .ensures) (n .normalised .ensures)) (c .window-code .ensures)
+returns-2 c = let divided : tie.After-normalised = search in
+    let weighed : tie.After-windowed = search in
+    let else1 : tie.Else1 = search in
+    let start : tie.Start = search in
+    let a = start .args in
+    fir-accepted (a .taps) (a .cutoff) (a .window) (else1 .before .before .validate-fir .ensures) (else1 .if1 .left)
+    (ap (λ (r : TapsRecord). r .samples) (else1 .before .blank .ensures))
+    (taps-done (a .window) (a .taps) maxTaps (a .cutoff) (weighed .windowed .ensures) (divided .normalised .ensures)) (c .window-code .ensures)
 
 pub design-fir-lp-spec : {M : Type 1} → statement M
 design-fir-lp-spec =
     tie.close
-    (tie.spec (λ c κs. search needs) (λ c κs. search needs) returns windowed-requires
-    normalised-requires (λ c κs. search needs) returns-2)
+    (tie.spec (λ c κs. search needs) (λ c κs. search needs) returns (λ c κs. good (c .before)) (λ c κs. good (c .before .before) .1)
+    (λ c κs. search needs) returns-2)

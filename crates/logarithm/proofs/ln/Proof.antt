@@ -33,16 +33,20 @@ split-requires c κs = let d = c .before .before .before in
 
 returns-5 : tie.Need-returns-5
 unfolding lnOf
-returns-5 c = let d = c .before .before .before in
-    let x = d .before .before .before .before .args .x in
+returns-5 c = let else4 : tie.Else4 = search in
+    let else3 : tie.Else3 = search in
+    let else2 : tie.Else2 = search in
+    let else1 : tie.Else1 = search in
+    let start : tie.Start = search in
+    let x = start .args .x in
     rw (
       c .ln-main .ensures,
       c .before .centre .ensures,
       c .before .before .split .ensures .0,
-      nan-test x ∙ d .before .before .before .if1 .left,
-      d .before .before .if2 .left,
-      d .before .if3 .left,
-      ap (Ieee.eq x) (sym inf-is) ∙ d .if4 .left,
+      nan-test x ∙ else1 .if1 .left,
+      else2 .if2 .left,
+      else3 .if3 .left,
+      ap (Ieee.eq x) (sym inf-is) ∙ else4 .if4 .left,
     )
 
 pub ln-spec : {M : Type 1} → statement M

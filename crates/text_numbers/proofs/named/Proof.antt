@@ -15,15 +15,15 @@ returns-2 c = let e = c .before .before .before in rw (← e .before .same-bytes
 
 returns-3 : tie.Need-returns-3
 unfolding named neg div ofBits
-returns-3 c = let e = c .before .before .before in
-    let d = e .before .before .before in
+returns-3 c = let e : tie.Else2 = search in
+    let d : tie.Else1 = search in
     rw (← d .before .same-bytes .ensures, d .if1 .left, ← e .before .same-bytes2 .ensures, e .if2 .left, ← c .before .same-bytes3 .ensures, c .if3 .taken)
 
 returns-4 : tie.Need-returns-4
 unfolding named
-returns-4 c = let b = c .before in
-    let e = b .before .before .before in
-    let d = e .before .before .before in
+returns-4 c = let b : tie.Else3 = search in
+    let e : tie.Else2 = search in
+    let d : tie.Else1 = search in
     rw (← d .before .same-bytes .ensures, d .if1 .left, ← e .before .same-bytes2 .ensures, e .if2 .left, ← b .before .same-bytes3 .ensures, b .if3 .left)
     (c .signed .ensures)
 

@@ -18,17 +18,19 @@ returns-3 c = let e = c .before .before .before .before in
     unsigned-letters _ _ (e .before .run-of .ensures) (e .if1 .left) (c .before .run-of2 .ensures) (c .if3 .taken)
 
 returns-4 : tie.Need-returns-4
-returns-4 c = let e = c .before .before .before .before .before in
-    unsigned-bare _ _ (e .before .run-of .ensures) (e .if1 .left) (c .before .if3 .left) (c .if4 .taken)
+returns-4 c = let else1 : tie.Else1 = search in
+    unsigned-bare _ _ (else1 .before .run-of .ensures) (else1 .if1 .left) (c .before .if3 .left) (c .if4 .taken)
 
 slice-aggregate-decimal-2 : tie.Need-slice-aggregate-decimal-2
 slice-aggregate-decimal-2 c = sym (length-take-le _ _ (omega arith))
 
 returns-5 : tie.Need-returns-5
-returns-5 c = let d = c .before .before .before in
-    let e = d .before .before .before .before .before in
-    c .decimal2 .ensures ∙ unsigned-is _ _ (e .before .run-of .ensures) (e .if1 .left) (d .before .before .before .if2 .left)
-    (d .before .before .run-of2 .ensures) (d .before .if3 .left) (d .if4 .left)
+returns-5 c = let else4 : tie.Else4 = search in
+    let else3 : tie.Else3 = search in
+    let else2 : tie.Else2 = search in
+    let else1 : tie.Else1 = search in
+    c .decimal2 .ensures ∙ unsigned-is _ _ (else1 .before .run-of .ensures) (else1 .if1 .left) (else2 .if2 .left)
+    (else3 .before .run-of2 .ensures) (else3 .if3 .left) (else4 .if4 .left)
 
 pub unsigned-spec : {M : Type 1} → statement M
 unsigned-spec =

@@ -1,8 +1,8 @@
 -- `text_tokens::run_of` meets its contract.
 use Prim.Native.Nat.{_-_}
-use mathlib.Core.Path.{refl, sym, _∙_}
-use borrow.Author.Tests.{not-true, not-false}
+use mathlib.Core.Path.{refl}
 use lib.ListN.{length}
+use Rattle.lists.proofs.Tests.{passed, failed}
 use Rattle.text_tokens.specs.Tokens.{inClass}
 use Rattle.text_tokens.proofs.Tokens.{Running, run-turn, run-found, run-done}
 use borrow.Author.Needs.{needs}
@@ -16,11 +16,11 @@ abbrev μ-loop : tie.MeasureT-loop
 μ-loop class bytes from i₀ i = length bytes - i
 
 returns : tie.Need-returns Inv-loop μ-loop
-returns c = run-found (inClass _) _ _ _ (c .before .before .before .loop-test .taken) (sym (c .before .is-in .ensures) ∙ not-true _ (c .if1 .taken))
+returns c = run-found (inClass _) _ _ _ (c .before .before .before .loop-test .taken) (failed (c .before .is-in .ensures) (c .if1 .taken))
     (c .before .before .before .before .loop .inv)
 
 loop-again : tie.Need-loop-again Inv-loop μ-loop
-loop-again c = run-turn (inClass _) _ _ _ (c .before .before .before .loop-test .taken) (sym (c .before .is-in .ensures) ∙ not-false _ (c .if1 .left))
+loop-again c = run-turn (inClass _) _ _ _ (c .before .before .before .loop-test .taken) (passed (c .before .is-in .ensures) (c .if1 .left))
     (c .before .before .before .before .loop .inv)
 
 returns-2 : tie.Need-returns-2 Inv-loop μ-loop

@@ -1,8 +1,9 @@
 -- `c_blocks::cascades::cascade_block` meets its contract.
+use Rattle.lists.proofs.Tests.{passed, failed}
 use Rattle.c_layout.proofs.Places.{set-one}
 use Rattle.c_layout.proofs.Laws.{fits-places}
 use Rattle.c_calls.specs.Kinds.{cascadeKind}
-use Rattle.c_calls.proofs.Laws.{passed, failed, read-is, numbers-are, counts-are, block-not-single, block-unfit, lend-block, block-refused, block-accepted}
+use Rattle.c_calls.proofs.Laws.{read-is, numbers-are, counts-are, block-not-single, block-unfit, lend-block, block-refused, block-accepted}
 use borrow.Author.Needs.{needs}
 use Rattle.c_blocks.proofs.cascades.cascade_block.Statement.{statement}
 use Rattle.c_blocks.proofs.cascades.cascade_block.Tie as tie

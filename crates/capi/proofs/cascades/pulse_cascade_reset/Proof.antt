@@ -1,7 +1,8 @@
 -- `capi::cascades::pulse_cascade_reset` meets its contract.
+use Rattle.lists.proofs.Tests.{passed, failed}
 use Rattle.c_layout.proofs.Laws.{fits-places}
 use Rattle.c_calls.specs.Kinds.{cascadeKind}
-use Rattle.c_calls.proofs.Laws.{passed, failed, read-is, numbers-are, counts-are, reset-unfit, lend-reset, reset-refused, reset-accepted}
+use Rattle.c_calls.proofs.Laws.{read-is, numbers-are, counts-are, reset-unfit, lend-reset, reset-refused, reset-accepted}
 use borrow.Author.Needs.{needs}
 use Rattle.capi.proofs.cascades.pulse_cascade_reset.Statement.{statement}
 use Rattle.capi.proofs.cascades.pulse_cascade_reset.Tie as tie

@@ -1,8 +1,8 @@
 -- `capi::cascades::pulse_cascade_step` meets its contract.
+use Rattle.lists.proofs.Tests.{passed, failed}
 use Rattle.c_layout.proofs.Laws.{fits-places}
 use Rattle.c_calls.specs.Kinds.{cascadeKind}
-use Rattle.c_calls.proofs.Laws.{passed, failed, read-is, numbers-are, counts-are, single-lengths, step-not-single, step-unfit, lend-step, step-refused}
-use Rattle.c_calls.proofs.Laws.{step-accepted}
+use Rattle.c_calls.proofs.Laws.{read-is, numbers-are, counts-are, single-lengths, step-not-single, step-unfit, lend-step, step-refused, step-accepted}
 use borrow.Author.Needs.{needs}
 use Rattle.capi.proofs.cascades.pulse_cascade_step.Statement.{statement}
 use Rattle.capi.proofs.cascades.pulse_cascade_step.Tie as tie

@@ -1,5 +1,6 @@
 -- `capi::filters::pulse_fir_step` meets its contract.
-use Rattle.c_calls.proofs.Laws.{passed, failed, single-lengths, step-not-single, step-unfit, uncounted, fir-step-refused, fir-step-accepted}
+use Rattle.lists.proofs.Tests.{passed, failed}
+use Rattle.c_calls.proofs.Laws.{single-lengths, step-not-single, step-unfit, uncounted, fir-step-refused, fir-step-accepted}
 use borrow.Author.Needs.{needs}
 use Rattle.capi.proofs.filters.pulse_fir_step.Statement.{statement}
 use Rattle.capi.proofs.filters.pulse_fir_step.Tie as tie

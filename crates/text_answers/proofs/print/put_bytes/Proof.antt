@@ -1,9 +1,10 @@
 -- `text_answers::print::put_bytes` meets its contract.
 use Prim.Native.Nat.{_-_}
-use mathlib.Core.Path.{refl, sym, _∙_}
+use mathlib.Core.Path.{refl}
 use native.Mathlib.Omega.{arith}
 use lib.ListN.{length}
-use borrow.Author.Tests.{not-true, not-false, leb-true}
+use borrow.Author.Tests.{leb-true}
+use Rattle.lists.proofs.Tests.{passed, failed}
 use Rattle.lists.proofs.Overwriting.{Overwriting, overwrite-start, overwrite-turn}
 use Rattle.text_answers.proofs.Texts.{left-out, put-done}
 use Rattle.text_answers.proofs.print.put_bytes.Statement.{statement}
@@ -17,10 +18,10 @@ abbrev μ-loop : tie.MeasureT-loop
 
 returns : tie.Need-returns Inv-loop μ-loop
 returns c = let a = c .before .before .before .before .args in
-    left-out (a .output .now) (a .at) (a .text .now) (length (a .text .now)) refl (sym (c .before .within .ensures) ∙ not-true _ (c .if1 .taken))
+    left-out (a .output .now) (a .at) (a .text .now) (length (a .text .now)) refl (failed (c .before .within .ensures) (c .if1 .taken))
 
 loop-holds : tie.Need-loop-holds Inv-loop μ-loop
-loop-holds c = overwrite-start _ refl (leb-true _ _ (sym (c .before .within .ensures) ∙ not-false _ (c .if1 .left)))
+loop-holds c = overwrite-start _ refl (leb-true _ _ (passed (c .before .within .ensures) (c .if1 .left)))
 
 loop-again : tie.Need-loop-again Inv-loop μ-loop
 loop-again c = overwrite-turn _ _ 0 refl (omega arith) refl (c .before .before .loop .inv)

@@ -1,11 +1,12 @@
 -- `text_answers::print::put_digits` meets its contract.
 use Prim.Native.Nat.{_≤_, _+_}
-use mathlib.Core.Path.{refl, sym, _∙_}
+use mathlib.Core.Path.{refl}
 use native.Mathlib.Nat.{mod-lt, lt-of-lt-of-le}
 use native.Mathlib.Omega.{arith}
 use lib.ListN.{length}
-use borrow.Author.Tests.{not-true, not-false, leb-true}
+use borrow.Author.Tests.{leb-true}
 use borrow.Author.Needs.{needs}
+use Rattle.lists.proofs.Tests.{passed, failed}
 use Rattle.text_answers.proofs.Texts.{left-out, length-digits, Printing, print-turn, print-done}
 use Rattle.text_answers.proofs.print.put_digits.Statement.{statement}
 use Rattle.text_answers.proofs.print.put_digits.Tie as tie
@@ -18,18 +19,18 @@ abbrev μ-loop : tie.MeasureT-loop
 
 returns : tie.Need-returns Inv-loop μ-loop
 returns c = let a = c .before .before .before .args in
-    left-out (a .output .now) (a .at) _ (a .k) (length-digits (a .base) (a .k) (a .n)) (sym (c .before .within .ensures) ∙ not-true _ (c .if1 .taken))
+    left-out (a .output .now) (a .at) _ (a .k) (length-digits (a .base) (a .k) (a .n)) (failed (c .before .within .ensures) (c .if1 .taken))
 
 loop-holds : tie.Need-loop-holds Inv-loop μ-loop
-loop-holds c = (omega arith, leb-true _ _ (sym (c .before .within .ensures) ∙ not-false _ (c .if1 .left)), (refl, refl))
+loop-holds c = (omega arith, leb-true _ _ (passed (c .before .within .ensures) (c .if1 .left)), (refl, refl))
 
 glyph-requires : tie.Need-glyph-requires Inv-loop μ-loop
-glyph-requires c κs = let s = c .before .before .before .before .before in
-    lt-of-lt-of-le (mod-lt _ (s .pre .0)) (s .pre .1)
+glyph-requires c κs = let start : tie.Start Inv-loop μ-loop = search in lt-of-lt-of-le (mod-lt _ (start .pre .0)) (start .pre .1)
 
 loop-again : tie.Need-loop-again Inv-loop μ-loop
 loop-again c = let l = c .before .before in
-    let a = l .before .before .before .before .args in (
+    let start : tie.Start Inv-loop μ-loop = search in
+    let a = start .args in (
       omega arith,
       l .loop .inv .1,
       print-turn (a .output .now) (a .at) (a .base) (a .k) (a .n) (l .loop .output) (l .loop .i) (l .loop .rest) (omega arith) (omega arith) (l .loop .inv .1)
@@ -38,7 +39,8 @@ loop-again c = let l = c .before .before in
 
 returns-2 : tie.Need-returns-2 Inv-loop μ-loop
 returns-2 c = let l = c .before in
-    let a = l .before .before .before .before .args in
+    let start : tie.Start Inv-loop μ-loop = search in
+    let a = start .args in
     print-done (a .output .now) (a .at) (a .base) (a .k) (a .n) (l .loop .output) (l .loop .i) (l .loop .rest) (omega arith) (l .loop .inv .1) (l .loop .inv .2)
 
 pub put-digits-spec : {M : Type 1} → statement M

@@ -5,12 +5,14 @@ use Rattle.text_answers.proofs.print.put_float.Statement.{statement}
 use Rattle.text_answers.proofs.print.put_float.Tie as tie
 
 returns : tie.Need-returns
-returns c = let t = c .before .before .before .before .before in
-    rw (nan-text (t .before .before .args .x) (t .if1 .taken)) (c .before .before .put-bytes .ensures)
+returns c = let then1 : tie.Then1 = search in
+    let start : tie.Start = search in
+    rw (nan-text (start .args .x) (then1 .if1 .taken)) (c .before .before .put-bytes .ensures)
 
 returns-2 : tie.Need-returns-2
-returns-2 c = let b = c .before .before .before .before in
-    rw (number-text (b .before .before .before .args .x) (b .before .if1 .left), length-digits, ← b .to-bits .ensures) (c .before .before .put-digits .ensures)
+returns-2 c = let bits : tie.After-to-bits = search in
+    let start : tie.Start = search in
+    rw (number-text (start .args .x) (bits .before .if1 .left), length-digits, ← bits .to-bits .ensures) (c .before .before .put-digits .ensures)
 
 pub put-float-spec : {M : Type 1} → statement M
 put-float-spec =
