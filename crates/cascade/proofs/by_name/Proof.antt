@@ -1,7 +1,6 @@
 -- `cascade::by_name` meets its contract.
 use mathlib.Core.Path.{_≡_, ap}
 use mathlib.Core.List.{map}
-use native.Mathlib.Omega.{arith}
 use lib.ListN.{length}
 use Rattle.limits.specs.Limits.{maxSections}
 use Rattle.sections.specs.View.{sectionView}

@@ -1,6 +1,5 @@
 -- `sections::parts::pass_sections` meets its contract: four turns.
 use mathlib.Core.Path.{_≡_}
-use native.Mathlib.Omega.{arith}
 use lib.ListN.{length}
 use lib.Ieee.{binary64}
 use Rattle.limits.specs.Limits.{maxSections}
