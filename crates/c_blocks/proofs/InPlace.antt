@@ -15,7 +15,7 @@ use Rattle.runs.specs.Refusals.{Accepted, ShortOutput}
 use Rattle.runs.specs.Runs.{Filter, Answer, Block, refusedBlock, cloudedIn, written, answers, after, block}
 use Rattle.runs.proofs.Laws.{Running, run-start, run-part, run-done, written-length, block-is, block-refused, check-after}
 use Rattle.c_calls.specs.Kinds.{Kind}
-use Rattle.c_calls.specs.Calls.{Call, unchanged, blockCall, blockInPlaceCall}
+use Rattle.c_calls.specs.Calls.{CallRecord, unchanged, blockCall, blockInPlaceCall}
 use Rattle.c_calls.proofs.Laws as Laws
 use Rattle.c_calls.proofs.Laws.{block-not-single, block-unfit, lend-block, block-accepted}
 use Rattle.c_calls.proofs.Lists.{ReadBack, good-after}
@@ -81,7 +81,7 @@ module _ (part places : List Float) {copy : List Float} (l : length places ≡ p
   lent-length = sym (ap length copy-lent)
 
   -- a block from the copy to the part's places is a block in place
-  pub part-ran : (K : Kind) (numbers : List Float) (counts tally : List ℕ) {c : Call}
+  pub part-ran : (K : Kind) (numbers : List Float) (counts tally : List ℕ) {c : CallRecord}
       → c ≡ blockCall K numbers counts (take (length part) copy) part tally → c ≡ blockInPlaceCall K numbers counts part tally
   unfolding blockInPlaceCall
   part-ran K numbers counts tally ran = ran ∙ ap (λ (xs : List Float). blockCall K numbers counts xs part tally) copy-lent
@@ -114,12 +114,12 @@ module _ (K : Kind) (B : ReadBack K) where
 
   -- the slices after a block that left the record s
   ready-of : {r c : ℕ} {numbers ys ys′ : List Float} {counts tally : List ℕ} (s : F .State) → B .Good s → F .check s ≡ true
-      → _≡_ {A = Call} (record { refusal = r; numbers = numbers; counts = counts; answers = ys; clouded = tally })
+      → _≡_ {A = CallRecord} (record { refusal = r; numbers = numbers; counts = counts; answers = ys; clouded = tally })
       (record { refusal = Accepted; numbers = K .numbers s; counts = K .counts s; answers = ys′; clouded = c ∷ [] })
       → (K .read numbers counts ≡ s) × Ready K numbers counts tally
   ready-of s g h z =
-      let en = ap (λ (k : Call). k .numbers) z in
-      let ec = ap (λ (k : Call). k .counts) z in
+      let en = ap (λ (k : CallRecord). k .numbers) z in
+      let ec = ap (λ (k : CallRecord). k .counts) z in
       let back = ap₂ (K .read) en ec ∙ B .back s g in (
         back,
         record {
@@ -127,7 +127,7 @@ module _ (K : Kind) (B : ReadBack K) where
           good = ap (F .check) back ∙ h;
           held = en ∙ ap (K .numbers) (sym back);
           held-counts = ec ∙ ap (K .counts) (sym back);
-          single = ap (λ (k : Call). length (k .clouded)) z;
+          single = ap (λ (k : CallRecord). length (k .clouded)) z;
         },
       )
 
@@ -160,8 +160,8 @@ module _ (K : Kind) (B : ReadBack K) where
         let s′ = after F s part in
         let c = cloudedIn (answers F s part) in
         let z = e ∙ call-is K numbers counts part part tally (q .single) (q .fit) (q .good) (omega arith) in
-        let et : getD tally′ 0 0 ≡ c = ap (λ (k : Call). getD (k .clouded) 0 0) z in
-        let ran = ap (λ (l : List Float). record { refusal = 0; clouded = c; state = s′; output = l }) (ap (λ (k : Call). k .answers) z)
+        let et : getD tally′ 0 0 ≡ c = ap (λ (k : CallRecord). getD (k .clouded) 0 0) z in
+        let ran = ap (λ (l : List Float). record { refusal = 0; clouded = c; state = s′; output = l }) (ap (λ (k : CallRecord). k .answers) z)
         ∙ sym (block-is F s part part (q .good) (omega arith)) in
         let left = ready-of s′ (good-after K B s part (q .good) (B .good-read numbers counts (q .fit))) (check-after F (B .keeps) s part (q .good)) z in
         let turned = place-turn F (B .keeps) s₀ old to low high ran (p .place) in
@@ -205,7 +205,7 @@ module _ (K : Kind) (B : ReadBack K) where
             let n = B .numbered .0 in
             e ∙ sym (Laws.block-refused K numbers counts [] old tally z (lend-block K numbers counts q refl [] old (block-refused F s₀ [] old t)) n)
             ∙ Laws.block-refused K numbers counts old old tally z (lend-block K numbers counts q refl old old (block-refused F s₀ old old t)) n
-        go true true true p q t = absurd (h (ap (λ (z : Call). z .refusal)
+        go true true true p q t = absurd (h (ap (λ (z : CallRecord). z .refusal)
             (e ∙ call-is K numbers counts [] old tally (eqb-true (length tally) 1 p) q t (omega arith))))
 
     -- accepted: the buffer is as it was, and what follows is the block in place
@@ -219,7 +219,7 @@ module _ (K : Kind) (B : ReadBack K) where
     empty-accepted ok = go (eqb (length tally) 1) (K .fit numbers counts) (F .check s₀) refl refl refl
       where
         no : {n : ℕ} → (n ≡ 0 → ⊥) → unchanged K numbers counts old tally n ≡ blockCall K numbers counts [] old tally → Follows
-        no h k = absurd (h (ap (λ (z : Call). z .refusal) (k ∙ sym e) ∙ ok))
+        no h k = absurd (h (ap (λ (z : CallRecord). z .refusal) (k ∙ sym e) ∙ ok))
 
         go : (a b c : Bool) → eqb (length tally) 1 ≡ a → K .fit numbers counts ≡ b → F .check s₀ ≡ c → Follows
         go false b c p q t = no (λ z. omega (arith, z)) (block-not-single K numbers counts [] old tally (eqb-false (length tally) 1 p))
@@ -234,9 +234,9 @@ module _ (K : Kind) (B : ReadBack K) where
             let l = left .1 in
             let before = call-is K numbers counts old old tally single q t (omega arith) in
             let behind = call-is K numbers′ counts′ old old tally′ (l .single) (l .fit) (l .good) (omega arith) in
-            record { ready = l; same = ap (λ (k : Call). k .answers) z; block = behind ∙ ap (ran old) (left .0) ∙ sym before }
+            record { ready = l; same = ap (λ (k : CallRecord). k .answers) z; block = behind ∙ ap (ran old) (left .0) ∙ sym before }
           where
-            ran : List Float → F .State → Call
+            ran : List Float → F .State → CallRecord
             ran xs s = record {
               refusal = Accepted;
               numbers = K .numbers (after F s xs);
@@ -248,7 +248,7 @@ module _ (K : Kind) (B : ReadBack K) where
     pub empty-ready : r ≡ 0 → Ready K numbers′ counts′ tally′
     empty-ready ok = empty-accepted ok .ready
 
-    pub empty-then : r ≡ 0 → {c : Call} → c ≡ blockInPlaceCall K numbers′ counts′ buffer tally′ → c ≡ blockInPlaceCall K numbers counts old tally
+    pub empty-then : r ≡ 0 → {c : CallRecord} → c ≡ blockInPlaceCall K numbers′ counts′ buffer tally′ → c ≡ blockInPlaceCall K numbers counts old tally
     empty-then ok ran =
         let f = empty-accepted ok in
         ran ∙ ap (λ (l : List Float). blockInPlaceCall K numbers′ counts′ l tally′) (f .same) ∙ f .block

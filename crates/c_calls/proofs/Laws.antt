@@ -19,7 +19,7 @@ use Rattle.lists.proofs.Tests.{both, cond-true}
 use Rattle.c_layout.proofs.Laws.{fits-places}
 use Rattle.c_layout.specs.Layout.{countPlaces, flag, cascadeAt, cascadePlaces, cascadeFits, cascadeNumbers, cascadeCounts}
 use Rattle.c_calls.specs.Kinds.{Kind, tapsCounts, tapsAt, tapsFit, firKind}
-use Rattle.c_calls.specs.Calls.{Call, Stored, recordOf, fitting, unchanged, stepCall, blockCall, resetCall, notStored}
+use Rattle.c_calls.specs.Calls.{CallRecord, StoredRecord, recordOf, fitting, unchanged, stepCall, blockCall, resetCall, notStored}
 use Rattle.c_layout.proofs.Places.{set-middle}
 
 -- ---- a cascade read from slices that fit, and written into slices that have its places
@@ -77,7 +77,7 @@ module _ (K : Kind) (ns : List Float) (cs : List ℕ) where
         → _≡_ {A = Step (K .filter .State)} (record { answer = a; state = s }) (lentStep (K .filter) (fitting K ns cs) (recordOf K ns cs) x) → n ≡ refusalOf a
         → n ≡ 0
         → ns′ ≡ K .numbers s → cs′ ≡ K .counts s → ys ≡ numberOf a ∷ [] → tally′ ≡ flag (isClouded a) ∷ []
-        → _≡_ {A = Call} (record { refusal = Accepted; numbers = ns′; counts = cs′; answers = ys; clouded = tally′ }) (stepCall K ns cs x answer tally)
+        → _≡_ {A = CallRecord} (record { refusal = Accepted; numbers = ns′; counts = cs′; answers = ys; clouded = tally′ }) (stepCall K ns cs x answer tally)
     unfolding stepCall
     step-accepted {a} {s} {n} h e g k en ec ey et = rw (h, ← e, eq-eqb (refusalOf a) 0 (sym g ∙ k), en, ec, ey, et)
 
@@ -107,7 +107,8 @@ module _ (K : Kind) (ns : List Float) (cs : List ℕ) where
         → _≡_ {A = Block (K .filter .State)} (record { refusal = n; clouded = c; state = s; output = o })
         (lentBlock (K .filter) (fitting K ns cs) (recordOf K ns cs) input output) → n ≡ 0
         → ns′ ≡ K .numbers s → cs′ ≡ K .counts s → tally′ ≡ c ∷ []
-        → _≡_ {A = Call} (record { refusal = Accepted; numbers = ns′; counts = cs′; answers = o; clouded = tally′ }) (blockCall K ns cs input output tally)
+        → _≡_ {A = CallRecord} (record { refusal = Accepted; numbers = ns′; counts = cs′; answers = o; clouded = tally′ })
+        (blockCall K ns cs input output tally)
     unfolding blockCall
     block-accepted {n} h e k en ec et = rw (eq-eqb (length tally) 1 h, ← e, eq-eqb n 0 k, en, ec, et)
 
@@ -125,7 +126,7 @@ module _ (K : Kind) (ns : List Float) (cs : List ℕ) where
   pub reset-accepted : {n : ℕ} {s : K .filter .State} {ns′ : List Float} {cs′ : List ℕ}
       → _≡_ {A = Reset (K .filter .State)} (record { refusal = n; state = s }) (lentReset (K .filter) (fitting K ns cs) (recordOf K ns cs)) → n ≡ 0 → ns′
       ≡ K .numbers s → cs′ ≡ K .counts s
-      → _≡_ {A = Stored} (record { refusal = Accepted; numbers = ns′; counts = cs′ }) (resetCall K ns cs)
+      → _≡_ {A = StoredRecord} (record { refusal = Accepted; numbers = ns′; counts = cs′ }) (resetCall K ns cs)
   unfolding resetCall
   reset-accepted {n} e k en ec = rw (← e, eq-eqb n 0 k, en, ec)
 
@@ -170,7 +171,7 @@ module _ (ts ss : List Float) (cs : List ℕ) where
     module _ (x : Float) (answer : List Float) (tally : List ℕ) (single : (eqb (length answer) 1 && eqb (length tally) 1) ≡ true) {a : Answer}
         {ss′ : List Float} {h n : ℕ}
         (e : _≡_ {A = Step TapsRecord} (record { answer = a; state = with ss′ h }) (lentStep F (fits maxTaps) before x)) (g : n ≡ refusalOf a) where
-      pub fir-step-refused : (n ≡ 0 → ⊥) → _≡_ {A = Call} (record { refusal = n; numbers = ss′; counts = cs; answers = answer; clouded = tally })
+      pub fir-step-refused : (n ≡ 0 → ⊥) → _≡_ {A = CallRecord} (record { refusal = n; numbers = ss′; counts = cs; answers = answer; clouded = tally })
           (stepCall (firKind ts) ss cs x answer tally)
       fir-step-refused k =
           let same : ss′ ≡ ss = ap (λ (r : TapsRecord). r .samples) (step-keeps F (fits maxTaps) before x e (λ z. k (g ∙ z))) in
@@ -178,14 +179,14 @@ module _ (ts ss : List Float) (cs : List ℕ) where
           ∙ step-refused (firKind ts) ss cs x answer tally single (e ∙ fir-lent-step x) g k
 
       pub fir-step-accepted : n ≡ 0 → {ys : List Float} {tally′ : List ℕ} → ys ≡ numberOf a ∷ [] → tally′ ≡ flag (isClouded a) ∷ []
-          → _≡_ {A = Call} (record { refusal = Accepted; numbers = ss′; counts = set cs 1 h; answers = ys; clouded = tally′ })
+          → _≡_ {A = CallRecord} (record { refusal = Accepted; numbers = ss′; counts = set cs 1 h; answers = ys; clouded = tally′ })
           (stepCall (firKind ts) ss cs x answer tally)
       fir-step-accepted k ey et = step-accepted (firKind ts) ss cs x answer tally single (e ∙ fir-lent-step x) g k refl (counts-set ss′ h) ey et
 
     module _ (input output : List Float) (tally : List ℕ) (single : length tally ≡ 1) {ss′ o : List Float} {n d h : ℕ}
         (e : _≡_ {A = Block TapsRecord} (record { refusal = n; clouded = d; state = with ss′ h; output = o }) (lentBlock F (fits maxTaps) before input output))
       where
-        pub fir-block-refused : (n ≡ 0 → ⊥) → _≡_ {A = Call} (record { refusal = n; numbers = ss′; counts = cs; answers = o; clouded = tally })
+        pub fir-block-refused : (n ≡ 0 → ⊥) → _≡_ {A = CallRecord} (record { refusal = n; numbers = ss′; counts = cs; answers = o; clouded = tally })
             (blockCall (firKind ts) ss cs input output tally)
         fir-block-refused k =
             let same : ss′ ≡ ss = ap (λ (r : TapsRecord). r .samples) (block-keeps F (fits maxTaps) before input output e k .0) in
@@ -193,7 +194,7 @@ module _ (ts ss : List Float) (cs : List ℕ) where
             ∙ block-refused (firKind ts) ss cs input output tally single (e ∙ fir-lent-block input output) k
 
         pub fir-block-accepted : n ≡ 0 → {tally′ : List ℕ} → tally′ ≡ d ∷ []
-            → _≡_ {A = Call} (record { refusal = Accepted; numbers = ss′; counts = set cs 1 h; answers = o; clouded = tally′ })
+            → _≡_ {A = CallRecord} (record { refusal = Accepted; numbers = ss′; counts = set cs 1 h; answers = o; clouded = tally′ })
             (blockCall (firKind ts) ss cs input output tally)
         fir-block-accepted k et = block-accepted (firKind ts) ss cs input output tally single (e ∙ fir-lent-block input output) k refl (counts-set ss′ h) et
 

@@ -55,9 +55,9 @@ shown-marked false y = refl
 
 -- the slices after a call that changed none of them
 left-by : (K : Kind) {numbers numbers′ answers answers′ : List Float} {counts counts′ clouded clouded′ : List ℕ} {r n : ℕ}
-    → _≡_ {A = Calls.Call} (record { refusal = r; numbers = numbers′; counts = counts′; answers = answers′; clouded = clouded′ })
+    → _≡_ {A = Calls.CallRecord} (record { refusal = r; numbers = numbers′; counts = counts′; answers = answers′; clouded = clouded′ })
     (unchanged K numbers counts answers clouded n) → Left numbers counts numbers′ counts′
-left-by K e = record { same = ap (λ (z : Calls.Call). z .numbers) e; same-counts = ap (λ (z : Calls.Call). z .counts) e }
+left-by K e = record { same = ap (λ (z : Calls.CallRecord). z .numbers) e; same-counts = ap (λ (z : Calls.CallRecord). z .counts) e }
 
 module _ (K : Kind) (B : ReadBack K) where
   abbrev F : Filter
@@ -116,12 +116,14 @@ module _ (K : Kind) (B : ReadBack K) where
       where
         go : (a b c : Bool) → (eqb (length answer) 1 && eqb (length clouded) 1) ≡ a → K .fit numbers counts ≡ b → F .check s₀ ≡ c
             → Verdict r numbers counts numbers′ counts′ (step x) (stepped (answerShown r answer′ clouded′))
-        go false b c p q t = let z = e ∙ sym (step-not-single K numbers counts x answer clouded p) in inl (ap (λ (k : Calls.Call). k .refusal) z, left-by K z)
-        go true false c p q t = let z = e ∙ sym (step-unfit K numbers counts x answer clouded p q) in inl (ap (λ (k : Calls.Call). k .refusal) z, left-by K z)
+        go false b c p q t = let z = e ∙ sym (step-not-single K numbers counts x answer clouded p) in
+            inl (ap (λ (k : Calls.CallRecord). k .refusal) z, left-by K z)
+        go true false c p q t = let z = e ∙ sym (step-unfit K numbers counts x answer clouded p q) in
+            inl (ap (λ (k : Calls.CallRecord). k .refusal) z, left-by K z)
         go true true false p q t =
             let lent = lend-step K numbers counts q refl x (step-refused F s₀ x t) in
             let z = e ∙ sym (Laws.step-refused K numbers counts x answer clouded p lent refl (B .numbered .0)) in
-            let er : r ≡ F .refusal = ap (λ (k : Calls.Call). k .refusal) z in
+            let er : r ≡ F .refusal = ap (λ (k : Calls.CallRecord). k .refusal) z in
             let shown : answerShown r answer′ clouded′ ≡ refused (F .refusal) = rw (er, ne-eqb (F .refusal) 0 (B .numbered .0)) in
             refused-shown q (left-by K z) (not-bad (B .numbered .1) er) (ap stepped shown ∙ sym (outcome-refused F s₀ t (step x)))
             (sym (left-refused F s₀ t (step x)))
@@ -130,12 +132,12 @@ module _ (K : Kind) (B : ReadBack K) where
             let y = F .value s₀ x in
             let lent = lend-step K numbers counts q refl x (step-answered F s₀ x t refl refl) in
             let z = e ∙ sym (Laws.step-accepted K numbers counts x answer clouded p lent (sym (marked-accepted m y)) refl refl refl refl refl) in
-            let er : r ≡ 0 = ap (λ (k : Calls.Call). k .refusal) z in
-            let ey : answer′ ≡ numberOf (marked m y) ∷ [] = ap (λ (k : Calls.Call). k .answers) z in
-            let et : clouded′ ≡ flag (isClouded (marked m y)) ∷ [] = ap (λ (k : Calls.Call). k .clouded) z in
+            let er : r ≡ 0 = ap (λ (k : Calls.CallRecord). k .refusal) z in
+            let ey : answer′ ≡ numberOf (marked m y) ∷ [] = ap (λ (k : Calls.CallRecord). k .answers) z in
+            let et : clouded′ ≡ flag (isClouded (marked m y)) ∷ [] = ap (λ (k : Calls.CallRecord). k .clouded) z in
             let shown : answerShown r answer′ clouded′ ≡ marked m y = rw (er, ey, et) (shown-marked m y) in
-            accepted-shown q (B .good-next s₀ x t (B .good-read numbers counts q)) (ap (λ (k : Calls.Call). k .numbers) z)
-            (ap (λ (k : Calls.Call). k .counts) z) (not-bad (λ h. omega (arith, h)) er)
+            accepted-shown q (B .good-next s₀ x t (B .good-read numbers counts q)) (ap (λ (k : Calls.CallRecord). k .numbers) z)
+            (ap (λ (k : Calls.CallRecord). k .counts) z) (not-bad (λ h. omega (arith, h)) er)
             (ap stepped shown ∙ sym (step-outcome F s₀ t x)) (sym (step-left F s₀ t x))
 
     -- ---- a block
@@ -152,17 +154,17 @@ module _ (K : Kind) (B : ReadBack K) where
             → Verdict r numbers counts numbers′ counts′ (block input output) (blocked r (countShown r clouded′) output′)
         kept n h k p q b shows leaves =
             let z = e ∙ sym (Laws.block-refused K numbers counts input output clouded p (lend-block K numbers counts q refl input output b) h) in
-            let er : r ≡ n = ap (λ (c : Calls.Call). c .refusal) z in
-            let eo : output′ ≡ output = ap (λ (c : Calls.Call). c .answers) z in
+            let er : r ≡ n = ap (λ (c : Calls.CallRecord). c .refusal) z in
+            let eo : output′ ≡ output = ap (λ (c : Calls.CallRecord). c .answers) z in
             let shown : blocked r (countShown r clouded′) output′ ≡ blocked n 0 output = rw (er, eo, ne-eqb n 0 h) in
             refused-shown q (left-by K z) (not-bad k er) (shown ∙ shows) leaves
 
         go : (a b c d : Bool) → eqb (length clouded) 1 ≡ a → K .fit numbers counts ≡ b → F .check s₀ ≡ c → isShort input output ≡ d
             → Verdict r numbers counts numbers′ counts′ (block input output) (blocked r (countShown r clouded′) output′)
         go false b c d p q t i = let z = e ∙ sym (block-not-single K numbers counts input output clouded (eqb-false (length clouded) 1 p)) in
-            inl (ap (λ (k : Calls.Call). k .refusal) z, left-by K z)
+            inl (ap (λ (k : Calls.CallRecord). k .refusal) z, left-by K z)
         go true false c d p q t i = let z = e ∙ sym (block-unfit K numbers counts input output clouded (eqb-true (length clouded) 1 p) q) in
-            inl (ap (λ (k : Calls.Call). k .refusal) z, left-by K z)
+            inl (ap (λ (k : Calls.CallRecord). k .refusal) z, left-by K z)
         go true true false d p q t i =
             kept (F .refusal) (B .numbered .0) (B .numbered .1) (eqb-true (length clouded) 1 p) q (block-refused F s₀ input output t)
             (sym (outcome-refused F s₀ t (block input output)))
@@ -175,12 +177,12 @@ module _ (K : Kind) (B : ReadBack K) where
             let ys = answers F s₀ input in
             let lent = lend-block K numbers counts q refl input output (sym (block-is F s₀ input output t (ltb-false (length output) (length input) i))) in
             let z = e ∙ sym (block-accepted K numbers counts input output clouded (eqb-true (length clouded) 1 p) lent refl refl refl refl) in
-            let er : r ≡ 0 = ap (λ (c : Calls.Call). c .refusal) z in
-            let eo : output′ ≡ written ys output = ap (λ (c : Calls.Call). c .answers) z in
-            let et : clouded′ ≡ cloudedIn ys ∷ [] = ap (λ (c : Calls.Call). c .clouded) z in
+            let er : r ≡ 0 = ap (λ (c : Calls.CallRecord). c .refusal) z in
+            let eo : output′ ≡ written ys output = ap (λ (c : Calls.CallRecord). c .answers) z in
+            let et : clouded′ ≡ cloudedIn ys ∷ [] = ap (λ (c : Calls.CallRecord). c .clouded) z in
             let shown : blocked r (countShown r clouded′) output′ ≡ blocked 0 (cloudedIn ys) (written ys output) = rw (er, eo, et) in
-            accepted-shown q (good-after s₀ input t (B .good-read numbers counts q)) (ap (λ (c : Calls.Call). c .numbers) z)
-            (ap (λ (c : Calls.Call). c .counts) z) (not-bad (λ h. omega (arith, h)) er)
+            accepted-shown q (good-after s₀ input t (B .good-read numbers counts q)) (ap (λ (c : Calls.CallRecord). c .numbers) z)
+            (ap (λ (c : Calls.CallRecord). c .counts) z) (not-bad (λ h. omega (arith, h)) er)
             (shown ∙ sym (block-outcome F s₀ t input output ∙ rw i)) (sym (block-left F s₀ t input output ∙ rw i))
 
     -- ---- a reset
@@ -188,21 +190,21 @@ module _ (K : Kind) (B : ReadBack K) where
         → Verdict r numbers counts numbers′ counts′ reset (wasReset r)
     reset-verdict r e = go (K .fit numbers counts) (F .check s₀) refl refl
       where
-        stored : {n : ℕ} → _≡_ {A = Calls.Stored} (record { refusal = r; numbers = numbers′; counts = counts′ }) (notStored numbers counts n)
+        stored : {n : ℕ} → _≡_ {A = Calls.StoredRecord} (record { refusal = r; numbers = numbers′; counts = counts′ }) (notStored numbers counts n)
             → Left numbers counts numbers′ counts′
-        stored z = record { same = ap (λ (k : Calls.Stored). k .numbers) z; same-counts = ap (λ (k : Calls.Stored). k .counts) z }
+        stored z = record { same = ap (λ (k : Calls.StoredRecord). k .numbers) z; same-counts = ap (λ (k : Calls.StoredRecord). k .counts) z }
 
         go : (b c : Bool) → K .fit numbers counts ≡ b → F .check s₀ ≡ c → Verdict r numbers counts numbers′ counts′ reset (wasReset r)
-        go false c q t = let z = e ∙ sym (reset-unfit K numbers counts q) in inl (ap (λ (k : Calls.Stored). k .refusal) z, stored z)
+        go false c q t = let z = e ∙ sym (reset-unfit K numbers counts q) in inl (ap (λ (k : Calls.StoredRecord). k .refusal) z, stored z)
         go true false q t =
             let z = e ∙ sym (Laws.reset-refused K numbers counts (lend-reset K numbers counts q refl (reset-refused F s₀ t)) (B .numbered .0)) in
-            let er : r ≡ F .refusal = ap (λ (k : Calls.Stored). k .refusal) z in
+            let er : r ≡ F .refusal = ap (λ (k : Calls.StoredRecord). k .refusal) z in
             refused-shown q (stored z) (not-bad (B .numbered .1) er) (ap wasReset er ∙ sym (outcome-refused F s₀ t reset)) (sym (left-refused F s₀ t reset))
         go true true q t =
             let z = e ∙ sym (reset-accepted K numbers counts (lend-reset K numbers counts q refl (reset-done F s₀ t refl)) refl refl refl) in
-            let er : r ≡ 0 = ap (λ (k : Calls.Stored). k .refusal) z in
-            accepted-shown q (B .good-cleared s₀ (B .good-read numbers counts q)) (ap (λ (k : Calls.Stored). k .numbers) z)
-            (ap (λ (k : Calls.Stored). k .counts) z) (not-bad (λ h. omega (arith, h)) er)
+            let er : r ≡ 0 = ap (λ (k : Calls.StoredRecord). k .refusal) z in
+            accepted-shown q (B .good-cleared s₀ (B .good-read numbers counts q)) (ap (λ (k : Calls.StoredRecord). k .numbers) z)
+            (ap (λ (k : Calls.StoredRecord). k .counts) z) (not-bad (λ h. omega (arith, h)) er)
             (ap wasReset er ∙ sym (reset-outcome F s₀ t)) (sym (reset-left F s₀ t))
 
   -- ---- one call, and a list of them

@@ -9,13 +9,13 @@ use lib.Ieee.{Float}
 use borrow.Author.Tests.{eq-eqb, ne-eqb, eqb-true}
 use Rattle.limits.specs.Limits.{maxTaps}
 use Rattle.runs.specs.Refusals.{Accepted, BadCall}
-use Rattle.fir_theory.specs.Fir.{Made}
-use Rattle.design_cascade.specs.Design.{DesignRecord}
+use Rattle.fir_theory.specs.Fir.{FirDesignRecord}
+use Rattle.design_cascade.specs.Design.{CascadeDesignRecord}
 use Rattle.c_layout.specs.Layout.{countPlaces, cascadePlaces, cascadeNumbers, cascadeCounts}
 use Rattle.lists.proofs.Tests.{both}
 use Rattle.c_calls.specs.Kinds.{tapsCounts}
-use Rattle.c_calls.specs.Calls.{Stored, notStored}
-use Rattle.c_designs.specs.Designs.{TapsStored, designCall, tapsUnchanged, tapsPlaces, madeCall}
+use Rattle.c_calls.specs.Calls.{StoredRecord, notStored}
+use Rattle.c_designs.specs.Designs.{TapsStoredRecord, designCall, tapsUnchanged, tapsPlaces, madeCall}
 
 -- slices of a tap record
 pub taps-last : (ts ss : List Float) (cs : List ℕ) → length ts ≡ maxTaps → length ss ≡ maxTaps → eqb (length cs) countPlaces ≡ tapsPlaces ts ss cs
@@ -30,7 +30,7 @@ taps-lengths ts ss cs h =
     (eqb-true (length ts) maxTaps (p .0), eqb-true (length ss) maxTaps (q .0), eqb-true (length cs) countPlaces (q .1))
 
 -- ---- designs
-module _ (d : DesignRecord) (ns : List Float) (cs : List ℕ) where
+module _ (d : CascadeDesignRecord) (ns : List Float) (cs : List ℕ) where
   pub design-unfit : cascadePlaces ns cs ≡ false → notStored ns cs BadCall ≡ designCall d ns cs
   unfolding designCall
   design-unfit h = rw h
@@ -41,11 +41,11 @@ module _ (d : DesignRecord) (ns : List Float) (cs : List ℕ) where
 
   pub design-accepted : {ns′ : List Float} {cs′ : List ℕ} → cascadePlaces ns cs ≡ true → d .refusal ≡ 0 → ns′ ≡ cascadeNumbers (d .cascade) → cs′
       ≡ cascadeCounts (d .cascade)
-      → _≡_ {A = Stored} (record { refusal = Accepted; numbers = ns′; counts = cs′ }) (designCall d ns cs)
+      → _≡_ {A = StoredRecord} (record { refusal = Accepted; numbers = ns′; counts = cs′ }) (designCall d ns cs)
   unfolding designCall
   design-accepted h k en ec = rw (h, eq-eqb (d .refusal) 0 k, en, ec)
 
-module _ (m : Made) (ts ss : List Float) (cs : List ℕ) where
+module _ (m : FirDesignRecord) (ts ss : List Float) (cs : List ℕ) where
   pub made-unfit : tapsPlaces ts ss cs ≡ false → tapsUnchanged ts ss cs BadCall ≡ madeCall ts ss cs m
   unfolding madeCall
   made-unfit h = rw h
@@ -56,6 +56,6 @@ module _ (m : Made) (ts ss : List Float) (cs : List ℕ) where
 
   pub made-accepted : {ts′ ss′ : List Float} {cs′ : List ℕ} → tapsPlaces ts ss cs ≡ true → m .refusal ≡ 0 → ts′ ≡ m .filter .taps → ss′ ≡ m .filter .samples
       → cs′ ≡ tapsCounts (m .filter)
-      → _≡_ {A = TapsStored} (record { refusal = Accepted; taps = ts′; samples = ss′; counts = cs′ }) (madeCall ts ss cs m)
+      → _≡_ {A = TapsStoredRecord} (record { refusal = Accepted; taps = ts′; samples = ss′; counts = cs′ }) (madeCall ts ss cs m)
   unfolding madeCall
   made-accepted h k et es ec = rw (h, eq-eqb (m .refusal) 0 k, et, es, ec)

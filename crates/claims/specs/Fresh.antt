@@ -15,10 +15,10 @@ use Rattle.design_cascade.specs.BandPass.{butterworthBp}
 use Rattle.design_fir.specs.Fir.{firLp}
 use Rattle.design_fir.specs.declared.WindowType.{WindowType}
 use Rattle.runs.specs.Refusals.{Accepted}
-use Rattle.design_cascade.specs.Design.{DesignRecord}
+use Rattle.design_cascade.specs.Design.{CascadeDesignRecord}
 use Rattle.c_layout.specs.Layout.{cascadeAt, cascadeFits}
 use Rattle.c_calls.specs.Kinds.{tapsAt, tapsFit}
-use Rattle.c_designs.specs.Designs.{designCall, TapsStored, madeCall, firCall}
+use Rattle.c_designs.specs.Designs.{designCall, TapsStoredRecord, madeCall, firCall}
 
 pub record AcceptedIsFresh : Type 0 where
   pub lowPass : (n : ℕ) (cutoff rate : Float) → butterworthLp n cutoff rate .refusal ≡ 0 → FreshCascade (butterworthLp n cutoff rate .cascade)
@@ -33,12 +33,12 @@ pub record AcceptedIsFresh : Type 0 where
 
 -- ---- through the C library: what an accepted call that makes a filter leaves in the slices fits, and is fresh. Each premise is the call's
 -- contract, word for word.
-abbrev pub CascadeMade : DesignRecord → Type 0
+abbrev pub CascadeMade : CascadeDesignRecord → Type 0
 CascadeMade d = (numbers numbers′ : List Float) (counts counts′ : List ℕ) → record { refusal = Accepted; numbers = numbers′; counts = counts′ }
     ≡ designCall d numbers counts
     → (cascadeFits numbers′ counts′ ≡ true) × FreshCascade (cascadeAt numbers′ counts′)
 
-abbrev pub TapsMade : (List Float → List Float → List ℕ → TapsStored) → Type 0
+abbrev pub TapsMade : (List Float → List Float → List ℕ → TapsStoredRecord) → Type 0
 TapsMade call = (taps taps′ samples samples′ : List Float) (counts counts′ : List ℕ)
     → record { refusal = Accepted; taps = taps′; samples = samples′; counts = counts′ } ≡ call taps samples counts
     → (tapsFit taps′ samples′ counts′ ≡ true) × FreshTaps (tapsAt taps′ samples′ counts′)

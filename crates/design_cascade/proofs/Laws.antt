@@ -3,10 +3,10 @@ use mathlib.Core.Path.{_≡_, _∙_, sym, ap}
 use Prim.Native.Nat.{ℕ}
 use borrow.Author.Tests.{eq-eqb, ne-eqb}
 use Rattle.cascade_theory.specs.Cascade.{CascadeRecord}
-use Rattle.design_cascade.specs.Design.{DesignRecord, refusedDesign, accepted, unlessRefused}
+use Rattle.design_cascade.specs.Design.{CascadeDesignRecord, refusedDesign, accepted, unlessRefused}
 
 -- the code's checks drew r, which the definition's checks draw as v; the design d is refused, or made of the cascade a
-module _ {d : DesignRecord} {r v : ℕ} (drawn : r ≡ v) where
+module _ {d : CascadeDesignRecord} {r v : ℕ} (drawn : r ≡ v) where
   pub is-refused : (c : CascadeRecord) → (r ≡ 0 → ⊥) → d ≡ refusedDesign r → d ≡ unlessRefused v c
   is-refused c some e = rw (ne-eqb v 0 (λ z. some (drawn ∙ z))) (e ∙ ap refusedDesign drawn)
 

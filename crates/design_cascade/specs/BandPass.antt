@@ -12,7 +12,7 @@ use Rattle.cascade_theory.specs.FirstOrder.{blankFirst}
 use Rattle.cascade_theory.specs.Cascade.{CascadeRecord}
 use Rattle.design_bandpass.specs.BandPass.{SectionPairRecord, bpPair, bpReal}
 use Rattle.design_checks.specs.Checks.{validateBand}
-use Rattle.design_cascade.specs.Design.{DesignRecord, unlessRefused, padded}
+use Rattle.design_cascade.specs.Design.{CascadeDesignRecord, unlessRefused, padded}
 use Rattle.design_cascade.specs.Butterworth.{warped, angleOf}
 
 -- ---- order N gives N sections: two for each pole pair, one for the real pole of an odd N
@@ -37,5 +37,5 @@ bpCascade n wl wh = record {
 }
 
 -- ---- the design
-unfoldable pub butterworthBp : ℕ → Float → Float → Float → DesignRecord
+unfoldable pub butterworthBp : ℕ → Float → Float → Float → CascadeDesignRecord
 butterworthBp n low high rate = unlessRefused (validateBand low high rate n) (bpCascade n (warped low rate) (warped high rate))

@@ -7,19 +7,19 @@ use Rattle.runs.specs.Refusals.{Accepted}
 use Rattle.cascade_theory.specs.Section.{SectionRecord, blankSection}
 use Rattle.cascade_theory.specs.Cascade.{CascadeRecord, blankCascade}
 
-pub record DesignRecord : Type 0 where
+pub record CascadeDesignRecord : Type 0 where
   pub refusal : ℕ
   pub cascade : CascadeRecord
 
 -- a refused design returns its number and the blank record
-abbrev pub refusedDesign : ℕ → DesignRecord
+abbrev pub refusedDesign : ℕ → CascadeDesignRecord
 refusedDesign n = record { refusal = n; cascade = blankCascade }
 
-abbrev pub accepted : CascadeRecord → DesignRecord
+abbrev pub accepted : CascadeRecord → CascadeDesignRecord
 accepted c = record { refusal = Accepted; cascade = c }
 
 -- the design of c, unless a check has drawn the number n
-abbrev pub unlessRefused : ℕ → CascadeRecord → DesignRecord
+abbrev pub unlessRefused : ℕ → CascadeRecord → CascadeDesignRecord
 unlessRefused n c = cond (eqb n Accepted) (accepted c) (refusedDesign n)
 
 -- sections in the first of p places, and blank ones behind them

@@ -1,11 +1,11 @@
 -- The code's types, read field by field.
 use Rattle.cascade.specs.View.{cascadeView}
-use Rattle.design_cascade.specs.Design.{DesignRecord}
+use Rattle.design_cascade.specs.Design.{CascadeDesignRecord}
 use Rattle.design_cascade.specs.Chebyshev.{PolePairRecord}
 use Rattle.design_cascade.specs.declared.returned.CascadeDesignResult.{CascadeDesignResult}
 use Rattle.design_cascade.specs.declared.chebyshev.PolePair.{PolePair}
 
-abbrev pub designView : CascadeDesignResult → DesignRecord
+abbrev pub designView : CascadeDesignResult → CascadeDesignRecord
 designView d = record { refusal = d .refusal; cascade = cascadeView (d .cascade) }
 
 abbrev pub polePairView : PolePair → PolePairRecord

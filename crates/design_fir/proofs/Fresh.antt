@@ -6,7 +6,7 @@ use native.Mathlib.Omega.{arith}
 use lib.Dec.{eqb}
 use lib.Ieee.{Float, binary64}
 use borrow.Author.Tests.{eqb-true, eqb-false}
-use Rattle.fir_theory.specs.Fir.{ReadyMade, Made, blankTaps, holding}
+use Rattle.fir_theory.specs.Fir.{ReadyMade, FirDesignRecord, blankTaps, holding}
 use Rattle.limits.specs.Limits.{maxTaps}
 use Rattle.fir.specs.View.{FreshTaps}
 use Rattle.fir_theory.proofs.Fresh.{holding-fresh}
@@ -27,7 +27,7 @@ pub fir-fresh : (n : ℕ) (cutoff : Float) (w : WindowType) → firLp n cutoff w
 unfolding firLp
 fir-fresh n cutoff w = go (eqb (validateFir n cutoff) 0) refl
   where
-    made : Bool → Made
+    made : Bool → FirDesignRecord
     made b = cond b (record { refusal = 0; filter = holding maxTaps (firTaps w n cutoff) (codeOf w) })
         (record { refusal = validateFir n cutoff; filter = blankTaps maxTaps })
 

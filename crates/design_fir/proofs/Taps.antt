@@ -18,7 +18,7 @@ use Rattle.design_fir.specs.declared.WindowType.{WindowType}
 use borrow.Author.Tests.{eq-eqb, ne-eqb}
 use lib.Ieee.{ofBits}
 use Rattle.runs.specs.Refusals.{Accepted}
-use Rattle.fir_theory.specs.Fir.{TapsRecord, Made, zeros, blankTaps, holding}
+use Rattle.fir_theory.specs.Fir.{TapsRecord, FirDesignRecord, zeros, blankTaps, holding}
 use Rattle.limits.specs.Limits.{maxTaps}
 
 -- ---- the taps of a design
@@ -51,12 +51,13 @@ taps-done w n most cutoff {l} {m} p q =
 -- ---- what the design shows where it returns
 module _ (n : ℕ) (cutoff : Float) (w : WindowType) where
   pub fir-refused : {v : ℕ} {r : TapsRecord} → v ≡ validateFir n cutoff → (v ≡ 0 → ⊥) → r ≡ blankTaps maxTaps
-      → _≡_ {A = Made} (record { refusal = v; filter = r }) (firLp n cutoff w)
+      → _≡_ {A = FirDesignRecord} (record { refusal = v; filter = r }) (firLp n cutoff w)
   unfolding firLp
   fir-refused {v} {r} e h b = rw (← e, ne-eqb v 0 h, b)
 
   pub fir-accepted : {v code : ℕ} {l s : List Float} → v ≡ validateFir n cutoff → v ≡ 0 → s ≡ zeros maxTaps
       → l ≡ firTaps w n cutoff ++ replicate (maxTaps - length (firTaps w n cutoff)) plusZero → code ≡ codeOf w
-      → _≡_ {A = Made} (record { refusal = Accepted; filter = record { taps = l; samples = s; length = n; held = 0; window = code } }) (firLp n cutoff w)
+      → _≡_ {A = FirDesignRecord} (record { refusal = Accepted; filter = record { taps = l; samples = s; length = n; held = 0; window = code } })
+      (firLp n cutoff w)
   unfolding firLp holding ofBits
   fir-accepted {v} {code} {l} {s} e z es el ec = rw (← e, eq-eqb v 0 z, el, es, ec, taps-length w n cutoff)

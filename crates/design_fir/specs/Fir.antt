@@ -10,7 +10,7 @@ use Rattle.scalar.specs.Constants.{one, two, half, pi, epsilon}
 use Rattle.scalar.specs.Sign.{absOf}
 use Rattle.elementary.specs.Trigonometric.{sinOf, cosOf}
 use Rattle.runs.specs.Refusals.{Accepted}
-use Rattle.fir_theory.specs.Fir.{Rectangular, Hamming, Hanning, Blackman, Made, blankTaps, holding}
+use Rattle.fir_theory.specs.Fir.{Rectangular, Hamming, Hanning, Blackman, FirDesignRecord, blankTaps, holding}
 use Rattle.limits.specs.Limits.{maxTaps}
 use Rattle.design_checks.specs.Checks.{validateFir}
 use Rattle.lists.specs.Lists.{upTo}
@@ -55,7 +55,7 @@ firTaps w n cutoff =
     let ts = upTo (tapOf w n cutoff) n in
     normalisedBy (totalFrom plusZero ts) ts
 
-unfoldable pub firLp : ℕ → Float → WindowType → Made
+unfoldable pub firLp : ℕ → Float → WindowType → FirDesignRecord
 firLp n cutoff w =
     let v = validateFir n cutoff in
     cond (eqb v Accepted) (record { refusal = Accepted; filter = holding maxTaps (firTaps w n cutoff) (codeOf w) })

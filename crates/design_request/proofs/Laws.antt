@@ -5,9 +5,9 @@ use Prim.Native.Nat.{ℕ}
 use lib.Dec.{eqb}
 use borrow.Author.Tests.{eqb-true}
 use Rattle.cascade_theory.specs.Cascade.{CascadeRecord}
-use Rattle.fir_theory.specs.Fir.{Made}
+use Rattle.fir_theory.specs.Fir.{FirDesignRecord}
 use Rattle.design_checks.specs.Checks.{validateParams, validateChebyshev, validateBand, validateFir}
-use Rattle.design_cascade.specs.Design.{DesignRecord, accepted, refusedDesign, unlessRefused}
+use Rattle.design_cascade.specs.Design.{CascadeDesignRecord, accepted, refusedDesign, unlessRefused}
 use Rattle.design_cascade.specs.LowPass.{butterworthLp, butterworthHp, chebyshev1Lp, chebyshev2Lp}
 use Rattle.design_cascade.specs.BandPass.{butterworthBp}
 use Rattle.design_fir.specs.Fir.{firLp}
@@ -24,7 +24,7 @@ chosen refusal v y z r s = go (eqb v 0) refl
     go false e = s
 
 of-cascade : (v : ℕ) (c : CascadeRecord) → unlessRefused v c .refusal ≡ v
-of-cascade v c = chosen (λ (d : DesignRecord). d .refusal) v (accepted c) (refusedDesign v) refl refl
+of-cascade v c = chosen (λ (d : CascadeDesignRecord). d .refusal) v (accepted c) (refusedDesign v) refl refl
 
 pub refused-by-check : (r : DesignRequest) → designOf r .refusal ≡ checkRequest r
 unfolding butterworthLp butterworthHp chebyshev1Lp chebyshev2Lp butterworthBp firLp
@@ -33,4 +33,4 @@ refused-by-check (HighPass order cutoff rate) = of-cascade (validateParams cutof
 refused-by-check (BandPass order low high rate) = of-cascade (validateBand low high rate order) _
 refused-by-check (Chebyshev1 order cutoff db rate) = of-cascade (validateChebyshev cutoff db rate order) _
 refused-by-check (Chebyshev2 order cutoff db rate) = of-cascade (validateChebyshev cutoff db rate order) _
-refused-by-check (Fir taps cutoff window) = chosen (λ (m : Made). m .refusal) (validateFir taps cutoff) _ _ refl refl
+refused-by-check (Fir taps cutoff window) = chosen (λ (m : FirDesignRecord). m .refusal) (validateFir taps cutoff) _ _ refl refl

@@ -1,11 +1,11 @@
 -- 01's design request: its check, and the design of each kind.
 use Prim.Native.Nat.{ℕ}
 use Rattle.cascade_theory.specs.Cascade.{CascadeRecord, blankCascade}
-use Rattle.fir_theory.specs.Fir.{TapsRecord, Made, blankTaps}
+use Rattle.fir_theory.specs.Fir.{TapsRecord, FirDesignRecord, blankTaps}
 use Rattle.limits.specs.Limits.{maxTaps}
 use Rattle.design_checks.specs.Checks.{validateParams, validateChebyshev, validateBand, validateFir}
 use Rattle.design_fir.specs.Fir.{firLp}
-use Rattle.design_cascade.specs.Design.{DesignRecord}
+use Rattle.design_cascade.specs.Design.{CascadeDesignRecord}
 use Rattle.design_cascade.specs.LowPass.{butterworthLp, butterworthHp, chebyshev1Lp, chebyshev2Lp}
 use Rattle.design_cascade.specs.BandPass.{butterworthBp}
 use Rattle.design_request.specs.declared.DesignRequest.{DesignRequest}
@@ -21,19 +21,19 @@ checkRequest (Chebyshev2 order cutoff db rate) = validateChebyshev cutoff db rat
 checkRequest (Fir taps cutoff window) = validateFir taps cutoff
 
 -- a refusal number or 0, a cascade and a tap record
-pub record DesignedRecord : Type 0 where
+pub record DesignRecord : Type 0 where
   pub refusal : ℕ
   pub cascade : CascadeRecord
   pub filter : TapsRecord
 
 -- the record not asked for is blank
-abbrev pub ofCascade : DesignRecord → DesignedRecord
+abbrev pub ofCascade : CascadeDesignRecord → DesignRecord
 ofCascade d = record { refusal = d .refusal; cascade = d .cascade; filter = blankTaps maxTaps }
 
-abbrev pub ofTaps : Made → DesignedRecord
+abbrev pub ofTaps : FirDesignRecord → DesignRecord
 ofTaps m = record { refusal = m .refusal; cascade = blankCascade; filter = m .filter }
 
-abbrev pub designOf : DesignRequest → DesignedRecord
+abbrev pub designOf : DesignRequest → DesignRecord
 designOf (LowPass order cutoff rate) = ofCascade (butterworthLp order cutoff rate)
 designOf (HighPass order cutoff rate) = ofCascade (butterworthHp order cutoff rate)
 designOf (BandPass order low high rate) = ofCascade (butterworthBp order low high rate)

@@ -3,7 +3,7 @@ use mathlib.Core.List.{List}
 use lib.Ieee.{Float, binary64}
 use Rattle.runs.specs.Runs.{Step, Reset, Block, Fresh}
 use Rattle.runs.specs.View.{answerView}
-use Rattle.fir_theory.specs.Fir.{TapsRecord, fir, Made}
+use Rattle.fir_theory.specs.Fir.{TapsRecord, fir, FirDesignRecord}
 use Rattle.limits.specs.Limits.{maxTaps}
 use Rattle.fir.specs.declared.TapRecord.{TapRecord}
 use Rattle.fir.specs.declared.UpdateResult.{UpdateResult}
@@ -20,7 +20,7 @@ updatedView r = record { answer = answerView (r .answer); state = tapsView (r .f
 abbrev pub resetView : ResetResult → Reset TapsRecord
 resetView r = record { refusal = r .refusal; state = tapsView (r .filter) }
 
-abbrev pub madeView : FirDesignResult → Made
+abbrev pub madeView : FirDesignResult → FirDesignRecord
 madeView m = record { refusal = m .refusal; filter = tapsView (m .filter) }
 
 -- with the output after it

@@ -11,7 +11,7 @@ use Rattle.runs.specs.Refusals.{InvalidOrder, Accepted, orderRefused}
 use Rattle.runs.specs.Runs.{Fresh, reset}
 use Rattle.runs.proofs.Laws.{good-order, reset-fresh}
 use Rattle.fir_theory.proofs.Laws.{check-cleared}
-use Rattle.fir_theory.specs.Fir.{TapsRecord, ReadyMade, checkTaps, clearedTaps, blankTaps, fir, holding, fromCoeffs, Made}
+use Rattle.fir_theory.specs.Fir.{TapsRecord, ReadyMade, checkTaps, clearedTaps, blankTaps, fir, holding, fromCoeffs, FirDesignRecord}
 
 module _ (capacity : ℕ) (f : Format) where
   pub holding-fresh : (ts : List Float) (window : ℕ) → 0 < length ts → length ts ≤ capacity → window ≤ ReadyMade
@@ -31,7 +31,7 @@ module _ (capacity : ℕ) (f : Format) where
   unfolding fromCoeffs
   ready-made-fresh ts = go (orderRefused (length ts) capacity) refl
     where
-      made : Bool → Made
+      made : Bool → FirDesignRecord
       made b = cond b (record { refusal = InvalidOrder; filter = blankTaps capacity }) (record { refusal = Accepted; filter = holding capacity ts ReadyMade })
 
       go : (b : Bool) → orderRefused (length ts) capacity ≡ b → made b .refusal ≡ 0 → Fresh (fir capacity f) (made b .filter)

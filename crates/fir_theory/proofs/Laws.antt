@@ -24,7 +24,7 @@ use Rattle.lists.proofs.Places.{drop-replicate}
 use Rattle.lists.proofs.Tests.{both}
 use Rattle.fir_theory.specs.Lent.{lentTaps, fits}
 use Rattle.fir_theory.specs.Fir.{TapsRecord, ReadyMade, pushed, next, heldOf, clouding, sum, value, mark, checkTaps, zeros, blankTaps, clearedTaps, fir}
-use Rattle.fir_theory.specs.Fir.{holding, Made, fromCoeffs}
+use Rattle.fir_theory.specs.Fir.{holding, FirDesignRecord, fromCoeffs}
 
 -- ---- the loop that pushes among the first n: i places are done, and carried is what goes next
 abbrev pub Pushing : ℕ → List Float → Float → List Float → Float → ℕ → Type 0
@@ -206,18 +206,18 @@ module _ (f : Format) (capacity : ℕ) (r : TapsRecord) (fit : fits capacity r �
 -- ---- ready-made taps
 module _ (capacity : ℕ) (ts : List Float) where
   pub made-none : {r : TapsRecord} → length ts < 1 → r ≡ blankTaps capacity
-      → _≡_ {A = Made} (record { refusal = InvalidOrder; filter = r }) (fromCoeffs capacity ts)
+      → _≡_ {A = FirDesignRecord} (record { refusal = InvalidOrder; filter = r }) (fromCoeffs capacity ts)
   unfolding fromCoeffs orderRefused
   made-none h e = let z : length ts ≡ 0 = omega arith in
       rw (eq-eqb (length ts) 0 z, e)
 
   pub made-many : {r : TapsRecord} → 1 ≤ length ts → capacity < length ts → r ≡ blankTaps capacity
-      → _≡_ {A = Made} (record { refusal = InvalidOrder; filter = r }) (fromCoeffs capacity ts)
+      → _≡_ {A = FirDesignRecord} (record { refusal = InvalidOrder; filter = r }) (fromCoeffs capacity ts)
   unfolding fromCoeffs orderRefused
   made-many h k e = rw (ne-eqb (length ts) 0 (λ z. omega arith), lt-ltb capacity (length ts) k, e)
 
   pub made : {l s : List Float} → 1 ≤ length ts → length ts ≤ capacity → s ≡ zeros capacity → l ≡ copied ts (zeros capacity)
-      → _≡_ {A = Made} (record { refusal = Accepted; filter = record { taps = l; samples = s; length = length ts; held = 0; window = ReadyMade } })
+      → _≡_ {A = FirDesignRecord} (record { refusal = Accepted; filter = record { taps = l; samples = s; length = length ts; held = 0; window = ReadyMade } })
       (fromCoeffs capacity ts)
   unfolding fromCoeffs orderRefused holding copied
   made h k es e =

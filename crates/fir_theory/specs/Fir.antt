@@ -72,7 +72,7 @@ unfoldable pub mark : TapsRecord → Float → Bool
 mark r x = clouding (r .taps) (heldOf (next r x))
 
 -- what a design or ready-made taps return
-pub record Made : Type 0 where
+pub record FirDesignRecord : Type 0 where
   pub refusal : ℕ
   pub filter : TapsRecord
 
@@ -101,6 +101,6 @@ module _ (capacity : ℕ) where
   holding ts window = record { taps = ts ++ replicate (capacity - length ts) plusZero; samples = zeros; length = length ts; held = 0; window = window }
 
   -- ready-made taps
-  unfoldable pub fromCoeffs : List Float → Made
+  unfoldable pub fromCoeffs : List Float → FirDesignRecord
   fromCoeffs ts = cond (orderRefused (length ts) capacity) (record { refusal = InvalidOrder; filter = blankTaps })
       (record { refusal = Accepted; filter = holding ts ReadyMade })

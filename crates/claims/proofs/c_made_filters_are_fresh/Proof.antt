@@ -13,7 +13,7 @@ use Rattle.limits.specs.Zero.{plusZero}
 use Rattle.cascade_theory.specs.Section.{SectionRecord}
 use Rattle.cascade_theory.specs.Cascade.{CascadeRecord}
 use Rattle.cascade.specs.View.{FreshCascade}
-use Rattle.fir_theory.specs.Fir.{Made, ReadyMade, Blackman, blankTaps, holding, fromCoeffs}
+use Rattle.fir_theory.specs.Fir.{FirDesignRecord, ReadyMade, Blackman, blankTaps, holding, fromCoeffs}
 use Rattle.limits.specs.Limits.{maxSections, maxTaps}
 use Rattle.fir_theory.specs.Lent.{fits}
 use Rattle.fir_theory.proofs.Laws.{sizes, lengths-fit}
@@ -25,7 +25,7 @@ use Rattle.lists.specs.Lists.{upTo}
 use Rattle.design_fir.specs.Fir.{codeOf, firTaps, firLp}
 use Rattle.design_fir.specs.declared.WindowType.{WindowType}
 use Rattle.design_fir.proofs.Fresh.{fir-fresh}
-use Rattle.design_cascade.specs.Design.{DesignRecord, padded, unlessRefused, accepted, refusedDesign}
+use Rattle.design_cascade.specs.Design.{CascadeDesignRecord, padded, unlessRefused, accepted, refusedDesign}
 use Rattle.design_cascade.specs.Butterworth.{warped}
 use Rattle.design_cascade.specs.Chebyshev.{cheb1Prototype, cheb2Prototype}
 use Rattle.design_cascade.specs.Prototype.{pairOf, prototypeCascade}
@@ -36,8 +36,8 @@ use Rattle.design_cascade.specs.BandPass.{bpSections, bpCascade, butterworthBp}
 use Rattle.design_cascade.proofs.Fresh.{butterworth-lp-fresh, butterworth-hp-fresh, chebyshev1-fresh, chebyshev2-fresh, bandpass-fresh}
 use Rattle.c_layout.specs.Layout.{cascadeAt, cascadePlaces, cascadeFits, cascadeNumbers, cascadeCounts}
 use Rattle.c_calls.specs.Kinds.{tapsAt, tapsCounts, tapsFit}
-use Rattle.c_calls.specs.Calls.{Stored, notStored}
-use Rattle.c_designs.specs.Designs.{designCall, TapsStored, tapsPlaces, tapsUnchanged, madeCall, firCall, windowOf}
+use Rattle.c_calls.specs.Calls.{StoredRecord, notStored}
+use Rattle.c_designs.specs.Designs.{designCall, TapsStoredRecord, tapsPlaces, tapsUnchanged, madeCall, firCall, windowOf}
 use Rattle.c_calls.proofs.Back.{cascade-back, taps-back}
 use Rattle.claims.specs.Fresh.{CascadeMade, TapsMade}
 use Rattle.claims.proofs.c_made_filters_are_fresh.Statement.{statement}
@@ -53,11 +53,11 @@ order-accepted e = omega arith
 -- ---- cascades
 
 -- a design whose cascade has as many sections as there are places
-cascade-made : (d : DesignRecord) → length (d .cascade .sections) ≡ maxSections → (d .refusal ≡ 0 → FreshCascade (d .cascade)) → CascadeMade d
+cascade-made : (d : CascadeDesignRecord) → length (d .cascade .sections) ≡ maxSections → (d .refusal ≡ 0 → FreshCascade (d .cascade)) → CascadeMade d
 unfolding designCall
 cascade-made d four fresh numbers numbers′ counts counts′ e = go (cascadePlaces numbers counts) (eqb (d .refusal) 0) refl refl
   where
-    done : Bool → Bool → Stored
+    done : Bool → Bool → StoredRecord
     done a b =
         cond a (cond b (record { refusal = Accepted; numbers = cascadeNumbers (d .cascade); counts = cascadeCounts (d .cascade) })
         (notStored numbers counts (d .refusal)))
@@ -65,13 +65,13 @@ cascade-made d four fresh numbers numbers′ counts counts′ e = go (cascadePla
 
     go : (a b : Bool) → cascadePlaces numbers counts ≡ a → eqb (d .refusal) 0 ≡ b → (cascadeFits numbers′ counts′ ≡ true)
         × FreshCascade (cascadeAt numbers′ counts′)
-    go false b p q = absurd (accepted-bad (ap (λ (z : Stored). z .refusal) (e ∙ ap₂ done p q)))
-    go true false p q = absurd (eqb-false (d .refusal) 0 q (sym (ap (λ (z : Stored). z .refusal) (e ∙ ap₂ done p q))))
+    go false b p q = absurd (accepted-bad (ap (λ (z : StoredRecord). z .refusal) (e ∙ ap₂ done p q)))
+    go true false p q = absurd (eqb-false (d .refusal) 0 q (sym (ap (λ (z : StoredRecord). z .refusal) (e ∙ ap₂ done p q))))
     go true true p q =
         let z = e ∙ ap₂ done p q in
         let back = cascade-back (d .cascade) four in
-        let en : numbers′ ≡ cascadeNumbers (d .cascade) = ap (λ (s : Stored). s .numbers) z in
-        let ec : counts′ ≡ cascadeCounts (d .cascade) = ap (λ (s : Stored). s .counts) z in
+        let en : numbers′ ≡ cascadeNumbers (d .cascade) = ap (λ (s : StoredRecord). s .numbers) z in
+        let ec : counts′ ≡ cascadeCounts (d .cascade) = ap (λ (s : StoredRecord). s .counts) z in
         (ap₂ cascadeFits en ec ∙ back .1, rw (en, ec, back .0) (fresh (eqb-true (d .refusal) 0 q)))
 
 padded-length : (p : ℕ) (ss : List SectionRecord) → length (padded p ss) ≡ p
@@ -88,16 +88,16 @@ four-sections v c h = go (eqb v 0)
     go false = refl
 
 -- the designs of poles, and the band pass
-prototype-made : (v : ℕ) (p : Prototype) (n : ℕ) (d : DesignRecord) → d ≡ unlessRefused v (prototypeCascade p n) → (d .refusal ≡ 0 → FreshCascade (d .cascade))
-    → CascadeMade d
+prototype-made : (v : ℕ) (p : Prototype) (n : ℕ) (d : CascadeDesignRecord) → d ≡ unlessRefused v (prototypeCascade p n)
+    → (d .refusal ≡ 0 → FreshCascade (d .cascade)) → CascadeMade d
 unfolding prototypeCascade
-prototype-made v p n d e fresh = cascade-made d (ap (λ (r : DesignRecord). length (r .cascade .sections)) e
+prototype-made v p n d e fresh = cascade-made d (ap (λ (r : CascadeDesignRecord). length (r .cascade .sections)) e
     ∙ four-sections v (prototypeCascade p n) (padded-length maxSections (upTo (pairOf p n) (n / 2)))) fresh
 
-band-made : (v n : ℕ) (wl wh : Float) (d : DesignRecord) → d ≡ unlessRefused v (bpCascade n wl wh) → (d .refusal ≡ 0 → FreshCascade (d .cascade))
+band-made : (v n : ℕ) (wl wh : Float) (d : CascadeDesignRecord) → d ≡ unlessRefused v (bpCascade n wl wh) → (d .refusal ≡ 0 → FreshCascade (d .cascade))
     → CascadeMade d
 unfolding bpCascade
-band-made v n wl wh d e fresh = cascade-made d (ap (λ (r : DesignRecord). length (r .cascade .sections)) e
+band-made v n wl wh d e fresh = cascade-made d (ap (λ (r : CascadeDesignRecord). length (r .cascade .sections)) e
     ∙ four-sections v (bpCascade n wl wh) (padded-length maxSections (bpSections n (wh ⊖ wl) (wl ⊗ wh)))) fresh
 
 -- ---- tap records
@@ -111,12 +111,12 @@ unfolding holding
 held-few ts w f = sizes maxTaps (holding maxTaps ts w) (f .checked) .within
 
 -- a record that was made of some taps
-taps-made : (m : Made) (ts : List Float) (w : ℕ) → (m .refusal ≡ 0 → m .filter ≡ holding maxTaps ts w) → (m .refusal ≡ 0 → FreshTaps (m .filter))
+taps-made : (m : FirDesignRecord) (ts : List Float) (w : ℕ) → (m .refusal ≡ 0 → m .filter ≡ holding maxTaps ts w) → (m .refusal ≡ 0 → FreshTaps (m .filter))
     → TapsMade (λ taps samples counts. madeCall taps samples counts m)
 unfolding madeCall
 taps-made m ts w is fresh taps taps′ samples samples′ counts counts′ e = go (tapsPlaces taps samples counts) (eqb (m .refusal) 0) refl refl
   where
-    done : Bool → Bool → TapsStored
+    done : Bool → Bool → TapsStoredRecord
     done a b =
         cond a (cond b (record { refusal = Accepted; taps = m .filter .taps; samples = m .filter .samples; counts = tapsCounts (m .filter) })
         (tapsUnchanged taps samples counts (m .refusal)))
@@ -124,24 +124,24 @@ taps-made m ts w is fresh taps taps′ samples samples′ counts counts′ e = g
 
     go : (a b : Bool) → tapsPlaces taps samples counts ≡ a → eqb (m .refusal) 0 ≡ b → (tapsFit taps′ samples′ counts′ ≡ true)
         × FreshTaps (tapsAt taps′ samples′ counts′)
-    go false b p q = absurd (accepted-bad (ap (λ (z : TapsStored). z .refusal) (e ∙ ap₂ done p q)))
-    go true false p q = absurd (eqb-false (m .refusal) 0 q (sym (ap (λ (z : TapsStored). z .refusal) (e ∙ ap₂ done p q))))
+    go false b p q = absurd (accepted-bad (ap (λ (z : TapsStoredRecord). z .refusal) (e ∙ ap₂ done p q)))
+    go true false p q = absurd (eqb-false (m .refusal) 0 q (sym (ap (λ (z : TapsStoredRecord). z .refusal) (e ∙ ap₂ done p q))))
     go true true p q =
         let z = e ∙ ap₂ done p q in
         let ok = eqb-true (m .refusal) 0 q in
         let few : length ts ≤ maxTaps = held-few ts w (rw (is ok) at (fresh ok)) in
         let fit : fits maxTaps (m .filter) ≡ true = rw (is ok) (holding-fits ts w few) in
         let back = taps-back (m .filter .taps) (m .filter) refl fit in
-        let et : taps′ ≡ m .filter .taps = ap (λ (s : TapsStored). s .taps) z in
-        let es : samples′ ≡ m .filter .samples = ap (λ (s : TapsStored). s .samples) z in
-        let ec : counts′ ≡ tapsCounts (m .filter) = ap (λ (s : TapsStored). s .counts) z in
+        let et : taps′ ≡ m .filter .taps = ap (λ (s : TapsStoredRecord). s .taps) z in
+        let es : samples′ ≡ m .filter .samples = ap (λ (s : TapsStoredRecord). s .samples) z in
+        let ec : counts′ ≡ tapsCounts (m .filter) = ap (λ (s : TapsStoredRecord). s .counts) z in
         rw (et, es, ec) (back .1, rw (back .0) (fresh ok))
 
 ready-is : (ts : List Float) → fromCoeffs maxTaps ts .refusal ≡ 0 → fromCoeffs maxTaps ts .filter ≡ holding maxTaps ts ReadyMade
 unfolding fromCoeffs
 ready-is ts = go (orderRefused (length ts) maxTaps)
   where
-    go : (b : Bool) → (let m : Made = cond b (record { refusal = InvalidOrder; filter = blankTaps maxTaps })
+    go : (b : Bool) → (let m : FirDesignRecord = cond b (record { refusal = InvalidOrder; filter = blankTaps maxTaps })
         (record { refusal = Accepted; filter = holding maxTaps ts ReadyMade }) in m .refusal ≡ 0 → m .filter ≡ holding maxTaps ts ReadyMade)
     go true e = absurd (order-accepted e)
     go false e = refl
@@ -151,7 +151,7 @@ designed-is : (n : ℕ) (cutoff : Float) (w : WindowType) → firLp n cutoff w .
 unfolding firLp
 designed-is n cutoff w = go (eqb (validateFir n cutoff) 0) refl
   where
-    go : (b : Bool) → eqb (validateFir n cutoff) 0 ≡ b → (let m : Made = cond b
+    go : (b : Bool) → eqb (validateFir n cutoff) 0 ≡ b → (let m : FirDesignRecord = cond b
         (record { refusal = Accepted; filter = holding maxTaps (firTaps w n cutoff) (codeOf w) })
         (record { refusal = validateFir n cutoff; filter = blankTaps maxTaps }) in m .refusal ≡ 0 → m .filter ≡ holding maxTaps (firTaps w n cutoff) (codeOf w))
     go true e r = refl
@@ -161,7 +161,7 @@ designed-made : (n : ℕ) (cutoff : Float) (window : ℕ) → TapsMade (λ taps 
 unfolding firCall
 designed-made n cutoff window taps taps′ samples samples′ counts counts′ e = go (leb window Blackman) refl
   where
-    called : Bool → TapsStored
+    called : Bool → TapsStoredRecord
     called b = cond b (madeCall taps samples counts (firLp n cutoff (windowOf window))) (tapsUnchanged taps samples counts BadCall)
 
     go : (b : Bool) → leb window Blackman ≡ b → (tapsFit taps′ samples′ counts′ ≡ true) × FreshTaps (tapsAt taps′ samples′ counts′)
@@ -170,7 +170,7 @@ designed-made n cutoff window taps taps′ samples samples′ counts counts′ e
         taps-made m (firTaps (windowOf window) n cutoff) (codeOf (windowOf window)) (designed-is n cutoff (windowOf window))
         (fir-fresh n cutoff (windowOf window)) taps taps′ samples samples′ counts counts′
         (e ∙ ap called p)
-    go false p = absurd (accepted-bad (ap (λ (z : TapsStored). z .refusal) (e ∙ ap called p)))
+    go false p = absurd (accepted-bad (ap (λ (z : TapsStoredRecord). z .refusal) (e ∙ ap called p)))
 
 returns : tie.Need-returns
 unfolding butterworthLp butterworthHp chebyshev1Lp chebyshev2Lp butterworthBp
