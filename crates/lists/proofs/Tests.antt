@@ -17,9 +17,6 @@ neither false b h = (refl, h)
 pub cond-true : {A : Type 0} (b : Bool) (x y : A) → b ≡ true → cond b x y ≡ x
 cond-true b x y h = rw h
 
-pub cond-false : {A : Type 0} (b : Bool) (x y : A) → b ≡ false → cond b x y ≡ y
-cond-false b x y h = rw h
-
 -- the test that cannot wrap
 pub room : (length at m : ℕ) → at ≤ length → leb m (length - at) ≡ leb (at + m) length
 room length at m h = go (leb (at + m) length) refl
