@@ -22,7 +22,7 @@
  *
  *     pulse_design_butterworth_lp         1608
  *     pulse_design_butterworth_hp         1608
- *     pulse_design_butterworth_bp          424
+ *     pulse_design_butterworth_bp          440
  *     pulse_design_chebyshev1_lp          1640
  *     pulse_design_chebyshev2_lp          1640
  *     pulse_cascade_step                     8
