@@ -1,7 +1,8 @@
-// The C interface: designs, steps, blocks and resets of both kinds of filter, over numbers and slices that the caller lends
-// (include/pulse.h). Each function tests the slices itself: one that does not fit is refused by 13, and a refused call
-// leaves every slice.
+// The C interface: designs, steps, blocks and resets of both kinds of filter, and whole pulses, over numbers and slices that
+// the caller lends (include/pulse.h). Each function tests the slices itself: one that does not fit is refused by 13, and a
+// refused call leaves every slice.
 mod answer;
 mod cascades;
 mod design;
 mod filters;
+mod pulses;

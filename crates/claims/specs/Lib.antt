@@ -1,7 +1,8 @@
 -- What is claimed of designs and filters. Refused: refusals by the checks. Fresh: what is accepted is fresh. Forgetting: the forgetting rule over the
--- definitions. Lists: the same of lists of calls. Sheet: the release sheet.
+-- definitions. Lists: the same of lists of calls. Sheet: the release sheet. Dropout: what a NaN does to a pulse that a channel class filters.
 pub mod Refused
 pub mod Fresh
 pub mod Forgetting
 pub mod Lists
 pub mod Sheet
+pub mod Dropout

@@ -5,6 +5,7 @@ ghost use Rattle.claims.specs.Fresh.{AcceptedIsFresh, CMadeIsFresh};
 ghost use Rattle.claims.specs.Forgetting.{CascadeRule, FirRule};
 ghost use Rattle.claims.specs.Lists.{CascadeCallsRule, FirCallsRule, CCascadeRule, CFirRule};
 ghost use Rattle.claims.specs.Sheet.{ReleaseSheet};
+ghost use Rattle.claims.specs.Dropout.{Dropout};
 use cascade::Cascade;
 use fir::TapRecord;
 
@@ -57,4 +58,9 @@ pub fn c_made_filters_are_fresh()
 // The fourteen calculations on the release sheet.
 pub fn release_sheet()
     ensures { λ _. ⌜ ReleaseSheet ⌝ }
+{}
+
+// 02's Q-1: a NaN among the samples of a pulse makes every place a NaN. It is said of NaN, and does not hold of infinities.
+pub fn j211_dropout()
+    ensures { λ _. ⌜ Dropout ⌝ }
 {}

@@ -16,7 +16,7 @@ fn order_refused(order: usize, most: usize) -> bool
 }
 
 // 3, of a rate, and 4, of decibels: NaN or at most 0.
-fn not_positive(x: f64) -> bool
+pub fn not_positive(x: f64) -> bool
     ensures { λ r. ⌜ r ≡ notPositive x ⌝ }
 {
     (x != x) | (x <= 0.0)
@@ -37,7 +37,7 @@ fn band_refused(low: f64, high: f64, rate: f64) -> bool
 }
 
 // Of three tests in their order: the number of the first that holds; or 0.
-fn first_refusal(a: bool, number_a: u8, b: bool, number_b: u8, c: bool, number_c: u8) -> u8
+pub fn first_refusal(a: bool, number_a: u8, b: bool, number_b: u8, c: bool, number_c: u8) -> u8
     ensures { λ r. ⌜ r ≡ cond a «number_a» (cond b «number_b» (cond c «number_c» Accepted)) ⌝ }
 {
     if a {

@@ -1,13 +1,13 @@
--- A list by its places: its length and elements; the rest of a list of equals; a part of a list; and a list of four.
+-- A list by its places: its length and elements; a list of equals, its rest and turned round; a part of a list; and a list of four.
 use mathlib.Core.Path.{_≡_, refl, ap, _∙_}
 use mathlib.Core.Bool.{Bool, true, false}
-use mathlib.Core.List.{List, [], _∷_, _++_, map}
+use mathlib.Core.List.{List, [], _∷_, _++_, map, reverse, reverse-cons}
 use Prim.Native.Nat.{ℕ, zero, suc, _+_, _-_, _<_, _≤_, min}
 use native.Mathlib.Nat.{sub-zero, zero-sub, suc-sub-suc}
 use native.Mathlib.Numerals.{add-one, unary-clauses}
 use native.Mathlib.Omega.{arith}
 use lib.Dec.{ltb}
-use lib.ListN.{length, getD, set, take, drop, replicate, length-append, length-take, length-drop, List·getD-append}
+use lib.ListN.{length, getD, set, take, drop, replicate, length-append, length-take, length-drop, replicate-append-replicate, List·getD-append}
 use lib.Seq.{getD-at, getD-take, getD-drop}
 use borrow.Author.Tests.{ltb-true, ltb-false}
 use Rattle.lists.specs.Lists.{upTo}
@@ -32,6 +32,10 @@ pub drop-replicate : {A : Type 0} (n i : ℕ) (a : A) → drop i (replicate n a)
 drop-replicate n zero a = rw (sub-zero)
 drop-replicate zero (suc i) a = rw (zero-sub)
 drop-replicate (suc n) (suc i) a = rw (suc-sub-suc) (drop-replicate n i a)
+
+pub reverse-replicate : {A : Type 0} (n : ℕ) (a : A) → reverse (replicate n a) ≡ replicate n a
+reverse-replicate zero a = refl
+reverse-replicate (suc n) a = reverse-cons a (replicate n a) ∙ ap (λ t. t ++ a ∷ []) (reverse-replicate n a) ∙ replicate-append-replicate n 1 a ∙ rw add-one
 
 pub map-set : {A B : Type 0} (g : A → B) (l : List A) (i : ℕ) (a : A) → map g (set l i a) ≡ set (map g l) i (g a)
 map-set g [] i a = refl

@@ -1,5 +1,5 @@
--- The refusal numbers of 01's two tables, under their names there, that of records lent as slices, and the test of number 1, which designs
--- and ready-made taps share.
+-- The refusal numbers of 01's two tables, under their names there, that of records lent as slices, those of 02, and the test of number 1, which
+-- designs and ready-made taps share.
 use Prim.Native.Nat.{ℕ}
 use mathlib.Core.Bool.{Bool, _||_}
 use lib.Dec.{eqb, ltb}
@@ -36,3 +36,7 @@ BadTaps = 12
 -- of a call on lent slices: a slice of another length than asked for, a flag that is neither 0 nor 1, or a code that no design has
 abbrev pub BadCall : ℕ
 BadCall = 13
+
+-- 02's Q-1: not a channel class
+abbrev pub InvalidClass : ℕ
+InvalidClass = 21

@@ -27,6 +27,9 @@ pub const BAD_TAPS: u8 = 12;
 // design has.
 pub const BAD_CALL: u8 = 13;
 
+// From 02's Q-1: not a channel class.
+pub const INVALID_CLASS: u8 = 21;
+
 // 01's run answer.
 pub enum Answer {
     // The number, from finite samples alone.

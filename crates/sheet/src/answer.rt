@@ -9,6 +9,7 @@ use super::filters::answer_taps;
 use super::functions::answer_function;
 use super::line::bytes_of;
 use super::line::rest_of;
+use super::pulses::answer_j211;
 use super::records::Records;
 use super::running::answer_block;
 use super::running::answer_reset;
@@ -31,6 +32,7 @@ fn answer_request(
         Request::Cascade(kind) => answer_cascade(kind, rest, output, at, records),
         Request::Fir => answer_fir(rest, output, at, records),
         Request::Taps => answer_taps(rest, output, at, records),
+        Request::J211 => answer_j211(rest, output, at, records),
         Request::Function(f) => {
             let at = answer_function(f, rest, output, at);
             end_answer(output, at, records)

@@ -11,6 +11,7 @@ mod filters;
 mod functions;
 mod line;
 mod parameters;
+mod pulses;
 mod put;
 mod records;
 mod running;

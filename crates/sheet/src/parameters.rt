@@ -14,7 +14,7 @@ use text_answers::count_token;
 use text_answers::float_token;
 use text_answers::next_token;
 
-// The most samples of a block, places of its output, and ready-made taps of a line.
+// The most samples of a block or a pulse, places of a block's output, and ready-made taps of a line.
 pub(crate) const MOST: usize = 256;
 
 pub(crate) struct OneFloat {
@@ -52,11 +52,26 @@ pub(crate) struct FirParameters {
     pub(crate) window: WindowType,
 }
 
+// How many samples there are, and the place after them.
+struct Samples {
+    fault: Fault,
+    n: usize,
+    after: usize,
+}
+
 // How many samples a block has, and how many places its output.
 pub(crate) struct Lengths {
     pub(crate) fault: Fault,
     pub(crate) samples: usize,
     pub(crate) places: usize,
+}
+
+// What a pulse through a channel class takes, and how many samples it has.
+pub(crate) struct PulseParameters {
+    pub(crate) fault: Fault,
+    pub(crate) class: usize,
+    pub(crate) sample_rate: f64,
+    pub(crate) samples: usize,
 }
 
 // That nothing is given.
@@ -198,6 +213,49 @@ pub(crate) fn fir_parameters(rest: &[u8]) -> FirParameters {
     }
 }
 
+fn no_samples(fault: Fault) -> Samples
+    ensures { λ r. ⌜ r .n ≤ 256 ⌝ }
+{
+    Samples {
+        fault,
+        n: 0,
+        after: 0,
+    }
+}
+
+// A number of samples, and the samples, which go into the first places of `numbers`. The line has so many tokens; `others`
+// of them are no samples.
+fn counted_samples(
+    rest: &[u8],
+    from: usize,
+    tokens: usize,
+    others: usize,
+    numbers: &mut [f64],
+) -> Samples
+    requires { ⌜ others ≤ 3 ⌝ ∗ ⌜ 256 ≤ length (now numbers) ⌝ }
+    ensures { λ r. ⌜ r .n ≤ 256 ⌝ }
+{
+    let count = next_count(rest, from);
+    let fault = count.fault;
+    let Fault::None = fault else {
+        return no_samples(fault);
+    };
+    let n = count.n;
+    if n > MOST {
+        return no_samples(Fault::TooManySamples);
+    }
+    if tokens != n + others {
+        return no_samples(Fault::TokenCount);
+    }
+    let read = read_floats(rest, count.after, &mut numbers[..n]);
+    let fault = read.fault;
+    Samples {
+        fault,
+        n,
+        after: read.after,
+    }
+}
+
 fn no_block(fault: Fault) -> Lengths
     ensures { λ r. ⌜ (r .samples ≤ 256) × (r .places ≤ 256) ⌝ }
 {
@@ -238,22 +296,51 @@ pub(crate) fn block_lengths(rest: &[u8], input: &mut [f64]) -> Lengths
     if tokens < 1 {
         return no_block(Fault::TokenCount);
     }
-    let m = next_count(rest, 0);
-    let fault = m.fault;
-    let Fault::None = fault else {
-        return no_block(fault);
-    };
-    let samples = m.n;
-    if samples > MOST {
-        return no_block(Fault::TooManySamples);
-    }
-    if tokens != samples + 2 {
-        return no_block(Fault::TokenCount);
-    }
-    let read = read_floats(rest, m.after, &mut input[..samples]);
+    let read = counted_samples(rest, 0, tokens, 2, input);
     let fault = read.fault;
     let Fault::None = fault else {
         return no_block(fault);
     };
-    with_places(rest, read.after, samples)
+    with_places(rest, read.after, read.n)
+}
+
+fn no_pulse(fault: Fault) -> PulseParameters
+    ensures { λ r. ⌜ r .samples ≤ 256 ⌝ }
+{
+    PulseParameters {
+        fault,
+        class: 0,
+        sample_rate: 0.0,
+        samples: 0,
+    }
+}
+
+// The class, the rate, the number of samples, and the samples, which go into the first places of `buffer`.
+pub(crate) fn pulse_parameters(rest: &[u8], buffer: &mut [f64]) -> PulseParameters
+    requires { ⌜ 256 ≤ length (now buffer) ⌝ }
+    ensures { λ r. ⌜ r .samples ≤ 256 ⌝ }
+{
+    let tokens = token_count(rest);
+    if tokens < 3 {
+        return no_pulse(Fault::TokenCount);
+    }
+    let class = next_count(rest, 0);
+    let fault = class.fault;
+    let Fault::None = fault else {
+        return no_pulse(fault);
+    };
+    let mut numbers = [0.0; 1];
+    let rate = read_floats(rest, class.after, &mut numbers);
+    let fault = rate.fault;
+    let Fault::None = fault else {
+        return no_pulse(fault);
+    };
+    let read = counted_samples(rest, rate.after, tokens, 3, buffer);
+    let fault = read.fault;
+    PulseParameters {
+        fault,
+        class: class.n,
+        sample_rate: numbers[0],
+        samples: read.n,
+    }
 }

@@ -75,8 +75,8 @@ pub(crate) fn put_block(
     put_floats(output, at, places)
 }
 
-// What a reset answers.
-pub(crate) fn put_reset(output: &mut [u8], at: usize, refusal: u8) -> usize {
+// `refused K` or `done`: what a reset answers, and how a pulse's answer begins.
+pub(crate) fn put_done(output: &mut [u8], at: usize, refusal: u8) -> usize {
     if refusal != 0 {
         return put_refused(output, at, refusal);
     }

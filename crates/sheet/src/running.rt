@@ -10,7 +10,7 @@ use super::parameters::only_float;
 use super::parameters::rest_fault;
 use super::put::put_answer;
 use super::put::put_block;
-use super::put::put_reset;
+use super::put::put_done;
 use super::records::RecordKind;
 use super::records::Records;
 
@@ -121,14 +121,14 @@ pub(crate) fn answer_reset(
             let cascade = records.cascade;
             let r = cascade.reset();
             let after = r.cascade;
-            let at = put_reset(output, at, r.refusal);
+            let at = put_done(output, at, r.refusal);
             end_answer(output, at, records.with_cascade(after))
         }
         RecordKind::Filter => {
             let filter = records.filter;
             let r = filter.reset();
             let after = r.filter;
-            let at = put_reset(output, at, r.refusal);
+            let at = put_done(output, at, r.refusal);
             end_answer(output, at, records.with_filter(after))
         }
     }

@@ -7,7 +7,7 @@ use design_fir::WindowType;
 use text_answers::next_token;
 use text_answers::same_bytes;
 
-// The designs are Cascade and Fir; Taps is ready-made taps.
+// The designs are Cascade and Fir; Taps is ready-made taps; J211 is a pulse through a channel class.
 pub(crate) enum Request {
     Step(RecordKind),
     Block(RecordKind),
@@ -15,6 +15,7 @@ pub(crate) enum Request {
     Cascade(CascadeKind),
     Fir,
     Taps,
+    J211,
     Function(Function),
     Unknown,
 }
@@ -45,7 +46,10 @@ fn place(words: &[u8], word: &[u8]) -> usize {
 }
 
 pub(crate) fn request_of(word: &[u8]) -> Request {
-    match place(b"cstep fstep cblock fblock creset freset fir taps", word) {
+    match place(
+        b"cstep fstep cblock fblock creset freset fir taps j211",
+        word,
+    ) {
         0 => Request::Step(RecordKind::Cascade),
         1 => Request::Step(RecordKind::Filter),
         2 => Request::Block(RecordKind::Cascade),
@@ -54,6 +58,7 @@ pub(crate) fn request_of(word: &[u8]) -> Request {
         5 => Request::Reset(RecordKind::Filter),
         6 => Request::Fir,
         7 => Request::Taps,
+        8 => Request::J211,
         _ => design_of(word),
     }
 }

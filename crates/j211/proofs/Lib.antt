@@ -1,0 +1,3 @@
+-- Laws: a pass in place, in either direction. Dropout: what a NaN among the samples does.
+pub mod Laws
+pub mod Dropout
