@@ -83,6 +83,6 @@ impl Current {
     }
 }
 
-fn refuse(number: u8, out: &mut Vec<u8>) {
+pub fn refuse(number: u8, out: &mut Vec<u8>) {
     write!(out, "refused {number}").unwrap();
 }

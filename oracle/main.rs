@@ -1,15 +1,17 @@
 // The oracle: answers the request lines of the protocol page on standard input by the published Rust. Marks, refusal numbers,
-// limits and blocks are 01's, beside the Rust's filter.
+// limits and blocks are 01's, beside the Rust's filter. j211 is answered by j211.rs alone, from the text of 02, since the Rust
+// has no channel classes.
 mod cascades;
 mod core;
 mod current;
 mod elementary;
+mod j211;
 mod taps;
 mod text;
 
 use crate::core::filters::FilterError;
 use cascades::Kind;
-use current::Current;
+use current::{refuse, Current};
 use std::io::{BufRead, BufReader, BufWriter, Write};
 
 const LONGEST_LINE: usize = 8192;
@@ -90,6 +92,7 @@ impl Bench {
                 Ok(self.current(word).step(x, out))
             }
             b"cblock" | b"fblock" => self.block(word, rest, out),
+            b"j211" => self.j211(rest, out),
             b"creset" | b"freset" => {
                 want(rest.is_empty())?;
                 Ok(self.current(word).reset(out))
@@ -136,6 +139,22 @@ impl Bench {
             return Err(TOO_MANY);
         }
         Ok(self.current(word).block(&v, length, out))
+    }
+
+    /// Touches neither current filter.
+    fn j211(&self, rest: &[&[u8]], out: &mut Vec<u8>) -> Result<(), Bad> {
+        want(rest.len() >= 3)?;
+        let (class, rate, samples) = (count(rest[0])?, number(rest[1])?, count(rest[2])?);
+        if samples > LONGEST_BLOCK {
+            return Err(TOO_MANY);
+        }
+        want(rest.len() == samples + 3)?;
+        let mut buffer = numbers(&rest[3..])?;
+        match j211::filter(class, rate, &mut buffer) {
+            0 => out.extend_from_slice(b"done"),
+            k => refuse(k, out),
+        }
+        Ok(text::push_floats(out, buffer))
     }
 
     /// The answer to a line without its end; nothing for a blank line or a comment.

@@ -1,11 +1,13 @@
 // Makes request lines of the protocol page, good and bad, for the comparison of two programs. The same arguments make the same
-// lines. First comes a sweep over every word, order, window, number of taps and small block, then lines by chance.
+// lines. First comes a sweep over every word, order, window, number of taps, small block and channel class, then lines by chance.
 // Usage: requests LINES SEED [plain]. `plain` keeps to printable characters, tabs and line ends, for a list that is stored.
 use std::io::{BufWriter, Write};
 
 const FUNCTIONS: [&str; 9] = ["sqrt", "ln", "sin", "cos", "tan", "exp", "sinh", "cosh", "pow10"];
 const PASSES: [&str; 5] = ["lowpass", "highpass", "bandpass", "chebyshev1", "chebyshev2"];
 const WINDOWS: [&str; 4] = ["rectangular", "hamming", "hanning", "blackman"];
+const CLASSES: [u64; 4] = [60, 180, 600, 1000];
+const NO_CLASSES: [u64; 9] = [0, 1, 59, 61, 599, 999, 1001, 100000, 999999999];
 const RATES: [u64; 10] = [1000, 2000, 5000, 8000, 10000, 12500, 20000, 44100, 48000, 100000];
 /// Where a rule changes, and the ends of the format.
 const EDGES: [f64; 20] = [
@@ -435,6 +437,43 @@ impl<W: Write> Maker<W> {
         };
         self.block(kind, samples, length, wild)
     }
+
+    /// About the greatest rate that a channel class refuses; usual; not positive; of any size.
+    fn class_rate(&mut self, class: u64) -> Number {
+        let limit = greatest_refused(class);
+        match self.dice.below(20) {
+            0..=3 => Bits(self.dice.near(limit)),
+            4 => Bits(limit * (1.0 + self.dice.unit())),
+            5 => Bits(limit * self.dice.unit()),
+            6..=8 => Bits(self.dice.pick(&[f64::NAN, 0.0, -0.0, -1.0, -10000.0, -5e-324, f64::NEG_INFINITY])),
+            9 | 10 => Bits(self.dice.pick(&[f64::INFINITY, f64::MAX, 1e300, 1e12, 1e-300, f64::MIN_POSITIVE, 5e-324])),
+            11 => Bits(self.dice.wild()),
+            _ => self.usual_rate(),
+        }
+    }
+
+    fn class_head(&mut self, class: u64, rate: Number, samples: u64) {
+        self.word("j211");
+        self.whole(class);
+        self.number(rate);
+        self.whole(samples);
+    }
+
+    fn j211(&mut self, class: u64, rate: Number, samples: u64, wild: u64) {
+        self.class_head(class, rate, samples);
+        for _ in 0..samples {
+            self.sample(wild);
+        }
+    }
+
+    /// As a rule one of the four classes, and a buffer without faults, since a NaN leaves nothing else in it.
+    fn some_j211(&mut self) {
+        let class = if self.dice.one_in(8) { self.dice.pick(&NO_CLASSES) } else { self.dice.pick(&CLASSES) };
+        let rate = self.class_rate(class);
+        let samples = if self.dice.one_in(40) { self.dice.from(0, 256) } else { self.dice.from(0, 20) };
+        let wild = self.dice.pick(&[10, 1000, 1_000_000]);
+        self.j211(class, rate, samples, wild)
+    }
 }
 
 /// Runs of lines.
@@ -483,9 +522,16 @@ impl<W: Write> Maker<W> {
         }
     }
 
+    fn classes(&mut self) {
+        for _ in 0..self.dice.from(1, 20) {
+            self.some_j211();
+            self.finish();
+        }
+    }
+
     /// A good line of any kind but a design.
     fn good(&mut self) {
-        match self.dice.below(4) {
+        match self.dice.below(5) {
             0 => self.function(),
             1 => {
                 let kind = self.dice.pick(&["cblock", "fblock"]);
@@ -495,6 +541,7 @@ impl<W: Write> Maker<W> {
                 let kind = self.dice.pick(&["creset", "freset"]);
                 self.word(kind)
             }
+            3 => self.some_j211(),
             _ => {
                 let kind = self.dice.pick(&["cstep", "fstep"]);
                 self.word(kind);
@@ -506,8 +553,9 @@ impl<W: Write> Maker<W> {
     fn by_chance(&mut self) {
         match self.dice.below(100) {
             0..=19 => self.run(),
-            20..=62 => self.designs(),
-            63..=88 => self.functions(),
+            20..=58 => self.designs(),
+            59..=79 => self.functions(),
+            80..=88 => self.classes(),
             _ => {
                 self.malformed();
                 self.end()
@@ -555,10 +603,16 @@ impl<W: Write> Maker<W> {
         let many = self.dice.pick(&[257, 257, 258, 300, 1000, 999999999]);
         let taps = self.dice.from(257, 300);
         let kind = self.dice.pick(&["cblock", "fblock"]);
-        match self.dice.below(4) {
+        let (class, rate) = (self.dice.pick(&CLASSES), self.usual_rate());
+        match self.dice.below(6) {
             0 => self.ready_made(taps),
             1 => self.block(kind, 257, 257, 1000),
             2 => self.block(kind, 2, many, 1000),
+            3 => self.j211(class, rate, 257, 1000),
+            4 => {
+                self.class_head(class, rate, many);
+                self.sample(1000)
+            }
             _ => {
                 self.word(kind);
                 self.whole(many);
@@ -591,9 +645,10 @@ impl<W: Write> Maker<W> {
 
     /// A good line with one thing changed.
     fn mutated(&mut self) {
-        match self.dice.below(4) {
+        match self.dice.below(5) {
             0 => self.some_pass(),
             1 => self.some_fir(),
+            2 => self.some_j211(),
             _ => self.good(),
         }
         let starts: Vec<usize> = (0..self.line.len()).filter(|i| self.line[*i] == b' ').collect();
@@ -646,6 +701,8 @@ impl<W: Write> Maker<W> {
         self.sweep_taps();
         self.sweep_blocks();
         self.sweep_spellings();
+        self.sweep_classes();
+        self.sweep_class_errors();
     }
 
     /// Good and bad tokens in several places, ends of lines, comments, too many samples, lines about the longest.
@@ -747,6 +804,55 @@ impl<W: Write> Maker<W> {
             self.lines(&["creset"]);
         }
     }
+
+    /// Every channel class at rates about its limit and at the ends of the format, other classes, some whole pulses; and that
+    /// the current filters stay.
+    fn sweep_classes(&mut self) {
+        for class in CLASSES {
+            let limit = greatest_refused(class);
+            let [below, above] = [-1, 1].map(|step| f64::from_bits(limit.to_bits().wrapping_add_signed(step)));
+            for rate in [below, limit, above, 0.0, -0.0, -1.0, f64::NAN, f64::NEG_INFINITY, f64::INFINITY, f64::MAX, 5e-324, 20000.0] {
+                self.j211(class, Bits(rate), 4, 1_000_000);
+                self.end();
+            }
+            for samples in [0, 1, 2, 3, 256] {
+                self.j211(class, Digits(10000, 0), samples, 1_000_000);
+                self.end();
+            }
+        }
+        for class in NO_CLASSES {
+            for rate in [Digits(10000, 0), Digits(0, 0), Bits(f64::NAN), Digits(1, 0)] {
+                self.j211(class, rate, 2, 1000);
+                self.end();
+            }
+        }
+        for pulse in ["1 0 0 0 0", "50 50 50 50 50", "-0 -0 -0 -0 -0", "1 NaN 3 4 5", "1 2 3 4 NaN", "inf 2 3 4 5", "1 2 3 -inf 5", "1 2 3 4 inf"] {
+            self.lines(&[&format!("j211 60 10000 5 {pulse}"), &format!("j211 1000 4200 5 {pulse}"), &format!("j211 180 inf 5 {pulse}")]);
+        }
+        self.lines(&["lowpass 2 499 1000", "taps 0.5 0.25", "cstep 1", "fstep 4", "j211 60 10000 3 1 NaN 3", "cstep 1", "fstep 8"]);
+        self.lines(&["j211 61 10000 1 NaN", "cstep 1", "fstep 8", "j211 60 10000", "cstep 1", "fstep 8"]);
+    }
+
+    /// Of several errors the first that is due, before any refusal; a bad token in each place in turn.
+    fn sweep_class_errors(&mut self) {
+        self.lines(&["j211", "j211 60", "j211 x 10000", "j211 60 10000 1", "j211 60 10000 0 1", "j211 60 10000 2 1", "j211 60 10000 2 1 2 3"]);
+        self.lines(&["j211 60 10000 257", "j211 61 0 257 1", "j211 60 10000 999999999 x", "j211 60 x 257 1", "j211 x 10000 257", "j211 60 10000 256 1"]);
+        self.lines(&["j211 -60 10000 1 1", "j211 60.5 10000 1 1", "j211 60 x 1 1", "j211 60 10000 x 1", "j211 60 10000 -1", "j211 60 10000 1.0 1"]);
+        self.lines(&["j211 60 10000 1 x", "j211 61 10000 2 1 x", "j211 60 0 1 x", "j211 60 10000 2 x", "j211 60 10000 0 x", "j211 x x x x"]);
+        self.lines(&["j211 000000060 10000 000000001 1", "j211 0000000060 10000 1 1", "j211 60 10000 0000000001 1", "J211 60 10000 0", "j21 1", "j2111"]);
+        for (i, word) in BAD.iter().enumerate() {
+            let mut tokens = ["j211", "60", "10000", "2", "1", "2"];
+            tokens[1 + i % 5] = word;
+            self.lines(&[&tokens.join(" ")]);
+        }
+        self.j211(60, Digits(10000, 0), 257, 1_000_000);
+        self.end();
+    }
+}
+
+/// The rate whose half is the class × 2.0775.
+fn greatest_refused(class: u64) -> f64 {
+    2.0 * (class as f64 * 2.0775)
 }
 
 fn main() {
