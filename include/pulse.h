@@ -74,6 +74,7 @@ extern "C" {
 #define PULSE_BAD_CASCADE 11        /* more than 4 sections, or no section and no first-order part */
 #define PULSE_BAD_TAPS 12           /* length 0 or above 64, held count above the length, or window code above 4 */
 #define PULSE_BAD_CALL 13           /* a slice of another length than asked for, a flag above 1, or a design's window code above 3 */
+#define PULSE_INVALID_CLASS 21      /* a channel class other than 60, 180, 600 and 1000 */
 
 /* Limits of the designs. */
 #define PULSE_MAX_ORDER 8           /* low pass, high pass, Chebyshev I and II */
@@ -256,6 +257,19 @@ uint8_t pulse_fir_block_in_place(const double *PULSE_RESTRICT taps, size_t taps_
  * 13: taps_len or samples_len is not 64, or counts_len not 3; then 12. */
 uint8_t pulse_fir_reset(const double *PULSE_RESTRICT taps, size_t taps_len, double *PULSE_RESTRICT samples, size_t samples_len,
                         size_t *PULSE_RESTRICT counts, size_t counts_len);
+
+/* A whole pulse. */
+
+/* The samples of `buffer` through a channel class of SAE J211-1, in place: forward from the first place to the last, then
+ * backward from the last to the first, each pass from zero history. `channel_class` is 60, 180, 600 or 1000; each pass has
+ * its -3 dB point at 2.0775 x channel_class, in the unit of the sample rate. After it every place of `buffer` holds its
+ * answer. An empty buffer stays empty; an infinite rate is accepted.
+ *
+ * A pulse has no mark: a NaN among the samples makes every place of `buffer` a NaN, and the call returns 0. So look for
+ * dropouts before it. A buffer that does not begin and end near zero has wrong ends: at class 60 and a rate of 10000 a
+ * constant 50 reads 25.7 in the first place and 0.07 in the last (256 places).
+ * 21: another class; then 3: rate NaN or at most 0; then 2: channel_class x 2.0775 at least rate x 0.5. */
+uint8_t pulse_j211(size_t channel_class, double sample_rate, double *PULSE_RESTRICT buffer, size_t buffer_len);
 
 #ifdef __cplusplus
 }

@@ -12,8 +12,8 @@ The list is a text of words, 16 hexadecimal digits each, parted by a space or a 
 requests. Each other line is a request: its kind's number, how many words it asks, how many its answer has, the words
 asked and the answer's words. A float's word is its bits, and any NaN's is 7FF8000000000000.
 
-The words asked are those of the line; a window is its code, and a block's output length stands before its samples. The
-answer's words:
+The words asked are those of the line; a window is its code, a block's output length stands before its samples, and a
+pulse's number of samples is left out. The answer's words:
 
 - an elementary function: the number
 - a design or ready-made taps: the refusal number or 0, the answer's two counts, which are 0 of a refused one's blank record,
@@ -21,13 +21,14 @@ answer's words:
 - a step: 0 (clear) or 1 (clouded) and the number; or 2 and the refusal number
 - a block: the refusal number or 0, the count of Clouded, and the output's places
 - a reset: the refusal number or 0
+- a pulse through a channel class: the refusal number or 0, and the buffer's places
 """
 import re
 import struct
 
 SOURCES = ["examples/replay", "examples/filters"]
 KINDS = ["lowpass", "highpass", "bandpass", "chebyshev1", "chebyshev2", "cstep", "cblock", "creset", "fir", "taps", "fstep", "fblock",
-         "freset", "sqrt", "sin", "cos", "tan", "exp", "ln", "sinh", "cosh", "pow10"]
+         "freset", "j211", "sqrt", "sin", "cos", "tan", "exp", "ln", "sinh", "cosh", "pow10"]
 WINDOWS = ["rectangular", "hamming", "hanning", "blackman"]
 NAN = 0x7FF8000000000000
 LONGEST = 8192
@@ -51,12 +52,17 @@ def asked(kind, rest):
         return [int(rest[0]), number(rest[1]), WINDOWS.index(rest[2])]
     if kind in ("cblock", "fblock"):
         return [int(rest[0]), int(rest[-1])] + numbers(rest[1:-1])
+    if kind == "j211":
+        return [int(rest[0]), number(rest[1])] + numbers(rest[3:])
     if KINDS.index(kind) < 5:
         return [int(rest[0])] + numbers(rest[1:])
     return numbers(rest)
 
 
 def answered(kind, word, rest):
+    if kind == "j211":
+        refusal = int(rest.pop(0)) if word == "refused" else 0
+        return [refusal] + numbers(rest)
     if word == "refused":
         refusal = int(rest[0])
         if kind in ("cstep", "fstep"):
@@ -100,7 +106,7 @@ def main():
         for row in [[len(rows)]] + rows:
             out.write(" ".join(f"{w:016X}" for w in row) + "\n")
     with open("crates/replay/stdout", "w") as out:
-        out.write(f"{len(rows)} requests, {len(rows)} agree with the Rust\n")
+        out.write(f"{len(rows)} requests, {len(rows)} agree with the oracle\n")
         for kind, n in count.items():
             out.write(f"{kind:<10} {n}, {n} agree\n")
 

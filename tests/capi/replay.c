@@ -213,6 +213,6 @@ int main(int argc, char **argv) {
         agree += (size_t)result;
     }
     fclose(list);
-    printf("replay: %zu requests agree with the Rust\n", agree);
+    printf("replay: %zu requests agree with the oracle\n", agree);
     return agree ? 0 : 1;
 }

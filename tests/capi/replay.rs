@@ -160,7 +160,7 @@ fn main() -> ExitCode {
     let list = std::env::args().nth(1).ok_or("usage: replay LIST".to_string());
     match list.and_then(|path| std::fs::read_to_string(path).map_err(|e| e.to_string())).and_then(|text| replay_all(&text)) {
         Ok(agree) => {
-            println!("replay from Rust: {agree} requests agree with the Rust");
+            println!("replay from Rust: {agree} requests agree with the oracle");
             ExitCode::SUCCESS
         }
         Err(wrong) => {

@@ -1,4 +1,4 @@
-// Replays the Rust's stored answers, the file `answers`: each request is asked of the port, and its answer compared with
+// Replays the oracle's stored answers, the file `answers`: each request is asked of the port, and its answer compared with
 // the stored one, word by word. Prints how many requests of each kind there were and how many agreed. tools/replay.py
 // makes the file.
 mod cascades;
@@ -6,6 +6,7 @@ mod compare;
 mod functions;
 mod kinds;
 mod list;
+mod pulses;
 mod taps;
 
 use cascade::Cascade;
@@ -14,7 +15,7 @@ use kinds::COUNTS;
 use libc::STDOUT_FILENO;
 
 // Replays the list, and counts the requests of each kind and those that agreed. Answers whether the list is whole: so many
-// requests as it says, and no more. Each request goes to the three groups of kinds, of which one takes it.
+// requests as it says, and no more. Each request goes to the four groups of kinds, of which one takes it.
 fn replay(fd: i32, counts: &mut [u64; COUNTS], agreed: &mut [u64; COUNTS]) -> bool {
     let requests = list::read_word(fd);
     let mut cascade = Cascade::blank();
@@ -31,6 +32,7 @@ fn replay(fd: i32, counts: &mut [u64; COUNTS], agreed: &mut [u64; COUNTS]) -> bo
         let mut alike = functions::request(h.kind, asked, stored);
         cascade = cascades::request(h.kind, cascade, asked, stored, &mut alike);
         filter = taps::request(h.kind, filter, asked, stored, &mut alike);
+        pulses::request(h.kind, asked, stored, &mut alike);
         kinds::count(counts, agreed, h.kind, alike);
         good = h.good;
     }
