@@ -14,6 +14,7 @@ const BUFFER: usize = 4_096;
 const CUTOFF: f64 = 1000.0;
 const RATE: f64 = 10_000.0;
 const RIPPLE: f64 = 0.5;
+const CLASS: usize = 180;
 const LIBM: &str = "the Rust over f64 and the C library, other bits";
 const TAPS: [usize; 7] = [1, 2, 4, 8, 16, 32, 64];
 const LENGTHS: [usize; 6] = [1, 4, 16, 64, 256, 1024];
@@ -116,6 +117,14 @@ impl Bench {
         self.plain_row(&name, port::cascade_in_place(8, CUTOFF, RATE, BUFFER), lowpass_in_place(8));
     }
 
+    fn pulse_rows(&mut self) {
+        for length in [BUFFER, BLOCK] {
+            let name = format!("pulse of {length}, channel class {CLASS}, both passes");
+            let rust: Run = Box::new(move |_, output| rust_ring::j211(CLASS, RATE, length, output));
+            self.plain_row(&name, port::j211(CLASS, RATE, length), rust);
+        }
+    }
+
     /// The best time of each of two makers of DESIGNS designs, ns a design.
     fn design_row(&mut self, name: &str, same: bool, mut port: impl FnMut(), mut rust: impl FnMut()) {
         if !same {
@@ -212,6 +221,7 @@ fn main() {
     bench.fir_rows();
     bench.cascade_rows();
     bench.in_place_rows();
+    bench.pulse_rows();
     bench.design_rows();
     bench.by_taps();
     bench.by_length();

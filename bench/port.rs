@@ -11,6 +11,7 @@ extern "C" {
     fn pulse_fir_step(taps: *const f64, taps_len: usize, samples: *mut f64, samples_len: usize, counts: *mut usize, counts_len: usize, x: f64, answer: *mut f64, answer_len: usize, clouded: *mut usize, clouded_len: usize) -> u8;
     fn pulse_fir_block(taps: *const f64, taps_len: usize, samples: *mut f64, samples_len: usize, counts: *mut usize, counts_len: usize, input: *const f64, input_len: usize, output: *mut f64, output_len: usize, clouded: *mut usize, clouded_len: usize) -> u8;
     fn pulse_fir_block_in_place(taps: *const f64, taps_len: usize, samples: *mut f64, samples_len: usize, counts: *mut usize, counts_len: usize, buffer: *mut f64, buffer_len: usize, clouded: *mut usize, clouded_len: usize) -> u8;
+    fn pulse_j211(channel_class: usize, rate: f64, buffer: *mut f64, buffer_len: usize) -> u8;
 }
 #[cfg(steps)]
 extern "C" {
@@ -121,6 +122,15 @@ pub fn fir_in_place(coeffs: &[f64], length: usize) -> Run {
 pub fn fir_by_value(coeffs: &[f64]) -> Run {
     let coeffs = coeffs.to_vec();
     Box::new(move |x, y| accepted(unsafe { steps_fir(coeffs.as_ptr(), coeffs.len(), x.as_ptr(), x.len(), y.as_mut_ptr(), y.len()) }))
+}
+
+/// Pulses of so many places, one after the other.
+pub fn j211(class: usize, rate: f64, length: usize) -> Run {
+    Box::new(move |_, output| {
+        for b in output.chunks_mut(length) {
+            accepted(unsafe { pulse_j211(class, rate, b.as_mut_ptr(), b.len()) });
+        }
+    })
 }
 
 /// So many designs of order 8; the bits of the four sections of the last.

@@ -1,10 +1,12 @@
 // The Rust side of the bench: the published butterworth.rs, chebyshev.rs, fir.rs and scalar.rs, unchanged, under the oracle's
 // scalar, whose elementary functions are the port's. Built twice, as the crates rust_ring and rust_deque, which differ in
-// the stand-in for heapless alone. Everything generic is instantiated here, so that updates are inlined into the loops.
+// the stand-in for heapless alone. Everything generic is instantiated here, so that updates are inlined into the loops. The
+// channel classes, which the published Rust has not, are the oracle's.
 #[allow(dead_code)]
 mod core;
 #[allow(dead_code)]
 mod elementary;
+mod j211;
 
 use crate::core::filters::butterworth::{design_butterworth_lp, ButterworthLp};
 use crate::core::filters::chebyshev::design_chebyshev1_lp;
@@ -70,6 +72,13 @@ pub fn lowpass(order: usize, cutoff: f64, rate: f64) -> Box<dyn Running> {
         7 => Box::new(design_butterworth_lp::<Port, 7>(Port(cutoff), Port(rate)).unwrap()),
         8 => Box::new(design_butterworth_lp::<Port, 8>(Port(cutoff), Port(rate)).unwrap()),
         _ => panic!("order {order} is not measured"),
+    }
+}
+
+/// A pulse of each so many places through a channel class.
+pub fn j211(class: usize, rate: f64, length: usize, buffer: &mut [f64]) {
+    for b in buffer.chunks_mut(length) {
+        assert_eq!(j211::filter(class, rate, b), 0);
     }
 }
 
