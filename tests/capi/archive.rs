@@ -18,6 +18,7 @@ extern "C" {
     fn pulse_fir_block(taps: *const f64, taps_len: usize, samples: *mut f64, samples_len: usize, counts: *mut usize, counts_len: usize, input: *const f64, input_len: usize, output: *mut f64, output_len: usize, clouded: *mut usize, clouded_len: usize) -> u8;
     fn pulse_fir_block_in_place(taps: *const f64, taps_len: usize, samples: *mut f64, samples_len: usize, counts: *mut usize, counts_len: usize, buffer: *mut f64, buffer_len: usize, clouded: *mut usize, clouded_len: usize) -> u8;
     fn pulse_fir_reset(taps: *const f64, taps_len: usize, samples: *mut f64, samples_len: usize, counts: *mut usize, counts_len: usize) -> u8;
+    fn pulse_j211(channel_class: usize, rate: f64, buffer: *mut f64, buffer_len: usize) -> u8;
 }
 
 const GUARDS: usize = 8;
@@ -80,7 +81,11 @@ impl Lent {
 /// What the archive returns, and whether it stayed within the slices.
 pub fn call(call: &Call, slices: &mut Slices, shift: usize) -> (u8, bool) {
     let mut lent = Lent::new(slices, shift);
-    let number = if call.function.is_cascade() { cascade(call, &mut lent) } else { fir(call, &mut lent) };
+    let number = match call.function {
+        J211 => pulse(call, &mut lent),
+        function if function.is_cascade() => cascade(call, &mut lent),
+        _ => fir(call, &mut lent),
+    };
     (number, lent.back(slices))
 }
 
@@ -118,4 +123,9 @@ fn fir(call: &Call, lent: &mut Lent) -> u8 {
             _ => pulse_fir_reset(t, tl, s, sl, c, cl),
         }
     }
+}
+
+fn pulse(call: &Call, lent: &mut Lent) -> u8 {
+    let [_, _, _, _, _, buffer, _] = &mut lent.floats;
+    unsafe { pulse_j211(call.size, call.floats[0], buffer.start(), buffer.len()) }
 }

@@ -1,7 +1,8 @@
 // Compares the archive of the C interface with the published Rust, call by call: the same call and slices to the archive
 // (archive.rs), and to the designs of the published Rust (published.rs) and a model of running and of refusals (model.rs),
-// beside which the published filters run. Returned numbers, counts and every place of every slice must agree: bits, a NaN
-// matching any NaN; after a refusal, and where a call may not write, the very bits. Stops at the first difference.
+// beside which the published filters run; a whole pulse to the oracle's channel classes (j211.rs). Returned numbers, counts and
+// every place of every slice must agree: bits, a NaN matching any NaN; after a refusal, and where a call may not write, the very
+// bits. Stops at the first difference.
 // Usage: compare [CALLS [SEED]]. tests/capi/run builds it as a library and links it with the archive, and once more with a
 // deliberately wrong one (wrong.c).
 mod archive;
@@ -12,6 +13,7 @@ mod core;
 #[allow(dead_code)]
 mod current;
 mod elementary;
+mod j211;
 mod maker;
 mod model;
 mod published;
@@ -29,9 +31,14 @@ use slices::{difference, Call, Function, Function::*, Slices, FUNCTIONS};
 const LONGEST_BLOCK: usize = 300;
 const LONGEST_IN_PLACE: usize = 600;
 
-/// The functions that take a block, and the most samples that they are asked for.
-const BLOCKS: [(Function, usize); 4] =
-    [(CascadeBlock, LONGEST_BLOCK), (FirBlock, LONGEST_BLOCK), (CascadeInPlace, LONGEST_IN_PLACE), (FirInPlace, LONGEST_IN_PLACE)];
+/// The functions that take a block or a pulse, and the most samples that they are asked for.
+const BLOCKS: [(Function, usize); 5] = [
+    (CascadeBlock, LONGEST_BLOCK),
+    (FirBlock, LONGEST_BLOCK),
+    (CascadeInPlace, LONGEST_IN_PLACE),
+    (FirInPlace, LONGEST_IN_PLACE),
+    (J211, LONGEST_IN_PLACE),
+];
 
 /// The number of a Rust error.
 fn refusal(error: FilterError) -> u8 {
@@ -54,6 +61,7 @@ fn numbers(function: Function) -> &'static [u8] {
         CascadeBlock => &[0, 5, 11, 13],
         FirStep | FirInPlace | FirReset => &[0, 12, 13],
         FirBlock => &[0, 5, 12, 13],
+        J211 => &[0, 2, 3, 21],
     }
 }
 
@@ -63,17 +71,17 @@ struct Session {
     filters: Filters,
     calls: u64,
     /// How often each function returned each number.
-    tally: [[u64; 14]; 15],
+    tally: [[u64; 22]; 16],
     /// Answers compared, and how many of them were a NaN.
     answers: [u64; 2],
     /// Which lengths ran, of each of BLOCKS.
-    lengths: [[bool; LONGEST_IN_PLACE + 1]; 4],
+    lengths: [[bool; LONGEST_IN_PLACE + 1]; 5],
 }
 
 impl Session {
     fn new(seed: u64) -> Session {
-        let tally = [[0; 14]; 15];
-        let lengths = [[false; LONGEST_IN_PLACE + 1]; 4];
+        let tally = [[0; 22]; 16];
+        let lengths = [[false; LONGEST_IN_PLACE + 1]; 5];
         Session { dice: Dice(seed), state: Slices::blank(), filters: Filters::default(), calls: 0, tally, answers: [0; 2], lengths }
     }
 
@@ -81,6 +89,9 @@ impl Session {
     /// go along with it.
     fn expected(&mut self, call: &Call, before: &Slices, live: bool) -> (u8, Slices) {
         let mut after = before.clone();
+        if call.function == J211 {
+            return (j211::filter(call.size, call.floats[0], &mut after.buffer), after);
+        }
         let mut number = model::refusal(call, before);
         if number == 0 && call.function.is_design() {
             match published::design(call, &mut after) {
@@ -125,7 +136,7 @@ impl Session {
         let answers = match () {
             _ if call.function.is_step() => &given.answer[..],
             _ if call.function.is_block() => &given.output[..given.input.len()],
-            _ if call.function.is_in_place() => &given.buffer[..],
+            _ if call.function.is_in_place() || call.function == J211 => &given.buffer[..],
             _ => &[],
         };
         self.answers[0] += answers.len() as u64;
@@ -187,19 +198,20 @@ impl Session {
             10..=14 => self.live(FirDesign),
             15..=17 => self.live(FirCoeffs),
             18..=21 => self.other_state(),
-            22..=36 => self.live(CascadeStep),
-            37..=51 => self.live(FirStep),
-            52..=58 => self.live(CascadeBlock),
-            59..=64 => self.live(CascadeInPlace),
-            65..=70 => self.live(FirBlock),
-            71..=76 => self.live(FirInPlace),
-            77 => self.live(CascadeReset),
-            78..=79 => self.live(FirReset),
+            22..=33 => self.live(CascadeStep),
+            34..=45 => self.live(FirStep),
+            46..=52 => self.live(CascadeBlock),
+            53..=58 => self.live(CascadeInPlace),
+            59..=64 => self.live(FirBlock),
+            65..=70 => self.live(FirInPlace),
+            71 => self.live(CascadeReset),
+            72..=73 => self.live(FirReset),
+            74..=79 => self.live(J211),
             _ => self.damaged(),
         }
     }
 
-    /// A function and a number that never came, or a block length that never ran.
+    /// A function and a number that never came, or a length of a block or a pulse that never ran.
     fn missing(&self) -> Option<String> {
         for function in FUNCTIONS {
             for number in numbers(function) {

@@ -1,7 +1,7 @@
 /* An example of the C interface: a Butterworth low pass of order 4 and a FIR of 31 Hamming taps, each designed, fed a step
- * and a block, and reset; then a design and a block that are refused. Answers are printed as bit patterns, in the form of
- * docs/PROTOCOL.md, so that the oracle and the program `sheet` answer the lines of example.requests with the same output:
- * example.answers. */
+ * and a block, and reset; a whole pulse through channel class 60; then a design and a block that are refused. Answers are
+ * printed as bit patterns, in the form of docs/PROTOCOL.md, so that the oracle and the program `sheet` answer the lines of
+ * example.requests with the same output: example.answers. */
 #include "pulse.h"
 #include <inttypes.h>
 #include <stdio.h>
@@ -80,6 +80,16 @@ static void fir(void) {
     printf(refusal ? "refused %u\n" : "done\n", refusal);
 }
 
+/* In place: the buffer holds the samples, and afterwards the answers. */
+static void whole_pulse(void) {
+    double buffer[6];
+    memcpy(buffer, pulse, sizeof buffer);
+    uint8_t refusal = pulse_j211(60, 10000, buffer, 6);
+    printf(refusal ? "refused %u" : "done", refusal);
+    print_bits(buffer, 6);
+    printf("\n");
+}
+
 /* An output that is too short, and an order that is too large: the output and the filter stay as they are. */
 static void refused(void) {
     double output[2] = {1000, 1001};
@@ -93,6 +103,7 @@ static void refused(void) {
 int main(void) {
     cascade();
     fir();
+    whole_pulse();
     refused();
     return 0;
 }

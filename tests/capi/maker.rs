@@ -1,6 +1,8 @@
 // Makes calls and states by a deterministic pseudo random sequence: parameters, samples and states, good and bad.
 use crate::slices::{Call, Function, Function::*, Slices, FUNCTIONS};
 
+const CLASSES: [usize; 4] = [60, 180, 600, 1000];
+
 /// splitmix64.
 pub struct Dice(pub u64);
 
@@ -102,7 +104,44 @@ impl Dice {
         }
     }
 
-    /// A call of the function, its own slices among the given ones. A block, in place or not, has `samples` samples.
+    /// One of the four channel classes; at times a number about one, that ends in the bits of one, or any other.
+    fn class(&mut self) -> usize {
+        let class = self.pick(&CLASSES);
+        if !self.one_in(10) {
+            return class;
+        }
+        let wide = self.pick(&[1 << 8, 1 << 16, 1 << 32, 1 << 63]);
+        let any = self.next() as usize;
+        self.pick(&[0, class - 1, class + 1, class + wide, any % 1100, any, usize::MAX])
+    }
+    /// The rate of a pulse: as a rule above the limit of its class; at times at it, below it, as of a design, or any number.
+    fn class_rate(&mut self, class: usize) -> f64 {
+        let limit = 2.0 * (class as f64 * 2.0775);
+        match self.below(16) {
+            0 => self.rate(),
+            1 => self.special(),
+            2 => f64::from_bits((limit.to_bits() + self.below(5) as u64).saturating_sub(2)),
+            3 => limit * self.unit(),
+            4..=6 => limit * (1.0 + self.unit()),
+            _ => limit * (1.0 + 40.0 * self.unit()),
+        }
+    }
+    /// The samples of a pulse; at times all are subnormal, or so large that sums overflow.
+    fn pulse(&mut self, n: usize) -> Vec<f64> {
+        let mut xs = self.samples(n);
+        if self.one_in(8) {
+            let scale = self.pick(&[1e-310, 1e308]);
+            xs.iter_mut().for_each(|x| *x *= scale);
+        }
+        xs
+    }
+    fn pulse_call(&mut self, samples: usize, s: &mut Slices) -> Call {
+        s.buffer = self.pulse(samples);
+        let class = self.class();
+        Call { function: J211, size: class, window: 0, floats: vec![self.class_rate(class)], x: 0.0 }
+    }
+
+    /// A call of the function, its own slices among the given ones. A block, in place or not, or a pulse has `samples` samples.
     pub fn call(&mut self, function: Function, samples: usize, s: &mut Slices) -> Call {
         let most = match function {
             BandPass => 4,
@@ -112,6 +151,9 @@ impl Dice {
         s.answer = vec![self.special()];
         s.clouded = vec![self.pick(&[0, 1, 77, usize::MAX])];
         (s.input, s.output, s.buffer) = (vec![], vec![], vec![]);
+        if function == J211 {
+            return self.pulse_call(samples, s);
+        }
         if function.is_in_place() {
             s.buffer = self.samples(samples);
         } else if function.is_block() {
@@ -147,15 +189,17 @@ impl Dice {
         }
     }
 
-    /// One thing wrong with the call: a length, a flag, a count, a window code.
+    /// One thing wrong with the call: a length, a flag, a count, a window code; of a pulse its class or its rate.
     pub fn damage(&mut self, call: &mut Call, s: &mut Slices) {
         let f = call.function;
         let near = |n: usize| [n + 1, n + 2, 256 + n, (1 << 32) + n, 1 << 63, usize::MAX];
         let kind = self.below(3);
-        if kind == 0 {
+        if kind == 0 && f != J211 {
             return self.wrong_length(f, s);
         }
         match f {
+            J211 if kind == 0 => call.size = self.pick(&near(1000)),
+            J211 => call.floats[0] = self.pick(&[0.0, -0.0, -1.0, f64::NAN, f64::NEG_INFINITY, 5e-324, 249.3]),
             FirDesign => call.window = self.pick(&near(3)),
             CascadeStep | CascadeBlock | CascadeInPlace | CascadeReset if s.counts.len() == 3 => {
                 if kind == 1 {

@@ -1,5 +1,5 @@
-/* Replays stored answers of the published Rust through the C interface, and compares every number, mark, count and output
- * place. Each block also runs in place, on a copy of the state, and must come to the same. The list is that of the program
+/* Replays stored answers of the oracle through the C interface, and compares every number, mark, count and output place.
+ * Each block also runs in place, on a copy of the state, and must come to the same. The list is that of the program
  * `replay`, crates/replay/data/answers: tools/replay-list asked the oracle (oracle/build, from the published Rust) and
  * tools/replay.py converted its answers; the latter says how the list is laid out. Its elementary functions are not part of
  * this interface and are passed over.
@@ -10,7 +10,7 @@
 #include <stdlib.h>
 #include <string.h>
 
-enum { LOW_PASS, HIGH_PASS, BAND_PASS, CHEBYSHEV1, CHEBYSHEV2, CASCADE_STEP, CASCADE_BLOCK, CASCADE_RESET, FIR, TAPS, FIR_STEP, FIR_BLOCK, FIR_RESET };
+enum { LOW_PASS, HIGH_PASS, BAND_PASS, CHEBYSHEV1, CHEBYSHEV2, CASCADE_STEP, CASCADE_BLOCK, CASCADE_RESET, FIR, TAPS, FIR_STEP, FIR_BLOCK, FIR_RESET, J211 };
 enum { MOST = 1000, FIRST_OUTPUT = 1000 };
 
 struct state {
@@ -147,16 +147,30 @@ static size_t reset(uint64_t kind, uint8_t *refusal) {
     return 1;
 }
 
-/* Calls the function; what is wrong, or none: a refused call that changed the state, or a block in place that came to
- * something else. The answer's words go to `given`, *n of them. */
+/* A whole pulse. *left: whether the places behind it, and a refused one's own, have the bits that they had. */
+static size_t pulse(size_t words, uint8_t *refusal, int *left) {
+    size_t samples = words - 2;
+    for (size_t i = 0; i < samples; i++)
+        floats[i] = number(asked[2 + i]);
+    memcpy(buffer, floats, sizeof buffer);
+    *refusal = pulse_j211(asked[0], number(asked[1]), buffer, samples);
+    size_t written = *refusal ? 0 : samples;
+    *left = memcmp(buffer + written, floats + written, (MOST - written) * sizeof *buffer) == 0;
+    given[0] = *refusal;
+    return put(1, buffer, samples);
+}
+
+/* Calls the function; what is wrong, or none: a refused call that changed the state, a block in place that came to something
+ * else, or a pulse that wrote a place that it leaves. The answer's words go to `given`, *n of them. */
 static const char *called(uint64_t kind, size_t words, size_t *n) {
     struct state before = now;
     uint8_t refusal = 0;
-    int in_place = 1;
+    int in_place = 1, left = 1;
     switch (kind) {
     case CASCADE_STEP: case FIR_STEP: *n = step(kind, &refusal); break;
     case CASCADE_BLOCK: case FIR_BLOCK: *n = block(kind, &refusal, &in_place); break;
     case CASCADE_RESET: case FIR_RESET: *n = reset(kind, &refusal); break;
+    case J211: *n = pulse(words, &refusal, &left); break;
     case TAPS:
         for (size_t i = 0; i < words; i++)
             floats[i] = number(asked[i]);
@@ -167,7 +181,7 @@ static const char *called(uint64_t kind, size_t words, size_t *n) {
     int kept = !refusal || memcmp(&before, &now, sizeof now) == 0;
     if (kind < CASCADE_STEP || kind == FIR || kind == TAPS)
         *n = designed(kind, refusal);
-    return !kept ? "refused, and the state is changed" : !in_place ? "something else in place" : 0;
+    return !kept ? "refused, and the state is changed" : !in_place ? "something else in place" : !left ? "a place that a pulse leaves is changed" : 0;
 }
 
 static int read_words(FILE *list, uint64_t *words, size_t count) {
@@ -185,7 +199,7 @@ static int request(FILE *list, size_t line) {
         printf("request %zu of the list cannot be read\n", line);
         return -1;
     }
-    if (head[0] > FIR_RESET)
+    if (head[0] > J211)
         return 0;
     const char *wrong = called(head[0], head[1], &n);
     if (n != head[2] || memcmp(expected, given, n * sizeof *given))

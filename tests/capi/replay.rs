@@ -1,5 +1,5 @@
-// Replays the stored answers of the published Rust through the archive from Rust, over slices between guard places
-// (archive.rs), and compares every number, mark, count and output place. Each block also runs in place, on a copy of the
+// Replays the stored answers of the oracle through the archive from Rust, over slices between guard places (archive.rs), and
+// compares every number, mark, count and output place. Each block also runs in place, on a copy of the
 // state, and must come to the same. It needs nothing but rustc, the archive and the list, whose layout tools/replay.py says:
 // replay.c reads the same one.
 // Usage: replay LIST. Status 0: all agree; 1: a difference, which is shown, or no list.
@@ -43,6 +43,9 @@ fn prepared(request: &Request, slices: &mut Slices) -> Call {
         (call.size, call.floats, call.window) = (asked[0] as usize, numbers(&asked[1..2]), asked[2] as usize);
     } else if function.is_cascade_design() {
         (call.size, call.floats) = (asked[0] as usize, numbers(&asked[1..]));
+    } else if function == Function::J211 {
+        (call.size, call.floats) = (asked[0] as usize, numbers(&asked[1..2]));
+        slices.buffer = numbers(&asked[2..]);
     }
     call
 }
@@ -77,6 +80,8 @@ fn answered(function: Function, refusal: u8, slices: &mut Slices) -> Vec<u64> {
         [refusal as u64, count].into_iter().chain(slices.output.iter().map(word)).collect()
     } else if function.is_step() {
         if refusal == 0 { vec![clouded, word(&slices.answer[0])] } else { vec![2, refusal as u64] }
+    } else if function == Function::J211 {
+        [refusal as u64].into_iter().chain(slices.buffer.iter().map(word)).collect()
     } else {
         vec![refusal as u64]
     }
@@ -135,15 +140,15 @@ fn next(words: &[u64]) -> Option<(u64, &[u64], &[u64], &[u64])> {
     Some((head[0], asked, expected, rest))
 }
 
-/// Replays a list; how many requests agree. The list's kinds are the functions up to `FirReset`, and then the elementary
-/// functions, which are passed over.
+/// Replays a list; how many requests agree. The list's kinds are the functions up to `J211`, and then the elementary functions,
+/// which are passed over.
 fn replay_all(text: &str) -> Result<usize, String> {
     let words: Vec<u64> = text.split_whitespace().map(|w| u64::from_str_radix(w, 16)).collect::<Result<_, _>>().map_err(|e| e.to_string())?;
     let (count, mut rest) = words.split_first().ok_or("the list is empty")?;
     let (mut slices, mut agree) = (Slices::blank(), 0);
     for line in 1..=*count {
         let (kind, asked, expected, behind) = next(rest).ok_or(format!("request {line} of the list cannot be read"))?;
-        if let Some(function) = FUNCTIONS[..=Function::FirReset as usize].get(kind as usize) {
+        if let Some(function) = FUNCTIONS[..=Function::J211 as usize].get(kind as usize) {
             let request = Request { function: *function, asked, expected };
             replay(&request, &mut slices).map_err(|wrong| format!("request {line}, {function:?}: {wrong}"))?;
             agree += 1;

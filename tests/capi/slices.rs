@@ -15,13 +15,14 @@ pub enum Function {
     FirStep,
     FirBlock,
     FirReset,
+    J211,
     CascadeInPlace,
     FirInPlace,
 }
 use Function::*;
-pub const FUNCTIONS: [Function; 15] = [
+pub const FUNCTIONS: [Function; 16] = [
     LowPass, HighPass, BandPass, Chebyshev1, Chebyshev2, CascadeStep, CascadeBlock, CascadeReset, FirDesign, FirCoeffs, FirStep, FirBlock, FirReset,
-    CascadeInPlace, FirInPlace,
+    J211, CascadeInPlace, FirInPlace,
 ];
 
 impl Function {
@@ -31,7 +32,7 @@ impl Function {
     pub fn is_design(self) -> bool {
         self.is_cascade_design() || matches!(self, FirDesign | FirCoeffs)
     }
-    /// Whether the call is lent a cascade; else a tap record.
+    /// Whether the call is lent a cascade; else a tap record, but for a whole pulse, which is lent neither.
     pub fn is_cascade(self) -> bool {
         self.is_cascade_design() || matches!(self, CascadeStep | CascadeBlock | CascadeReset | CascadeInPlace)
     }
@@ -47,7 +48,8 @@ impl Function {
     }
 }
 
-/// The arguments that are not slices: an order or a number of taps, a window code, a design's floats, a step's sample.
+/// The arguments that are not slices: an order, a number of taps or a channel class, a window code, a design's floats or the
+/// rate of a pulse, a step's sample.
 #[derive(Clone, Debug)]
 pub struct Call {
     pub function: Function,

@@ -1,18 +1,21 @@
-/* Tries what the stored answers of the Rust cannot have: slices of wrong lengths, damaged states, two reasons for a refusal
- * at once, every place of a state after a call, and blocks in place beside blocks over two arrays. The expected numbers are
- * written here from include/pulse.h. After each refusal all slices, and the guard places behind them, must be bit for bit as
- * before, also where they hold NaNs of any bits.
+/* Tries what the stored answers of the oracle cannot have: slices of wrong lengths, damaged states, two reasons for a refusal
+ * at once, every place of a state after a call, blocks in place beside blocks over two arrays, and whole pulses of any length
+ * beside their recurrence. The expected numbers are written here from include/pulse.h, the recurrence from 02. After each refusal all slices, and the
+ * guard places behind them, must be bit for bit as before, also where they hold NaNs of any bits.
  * Usage: states. Status 0: all as expected; 1: a difference, which is shown. */
 #include "pulse.h"
+#include <float.h>
 #include <math.h>
 #include <stdio.h>
 #include <string.h>
 
+/* J211, which has no filter's state, comes last. */
 enum function { LOW_PASS, HIGH_PASS, BAND_PASS, CHEBYSHEV1, CHEBYSHEV2, CASCADE_STEP, CASCADE_BLOCK, CASCADE_IN_PLACE, CASCADE_RESET,
-                FIR_DESIGN, FIR_COEFFS, FIR_STEP, FIR_BLOCK, FIR_IN_PLACE, FIR_RESET, FUNCTIONS };
+                FIR_DESIGN, FIR_COEFFS, FIR_STEP, FIR_BLOCK, FIR_IN_PLACE, FIR_RESET, J211, FUNCTIONS };
 static const char *const names[FUNCTIONS] = {
     "butterworth_lp", "butterworth_hp", "butterworth_bp", "chebyshev1_lp", "chebyshev2_lp", "cascade_step", "cascade_block",
-    "cascade_block_in_place", "cascade_reset", "fir_lp", "fir_from_coeffs", "fir_step", "fir_block", "fir_block_in_place", "fir_reset"};
+    "cascade_block_in_place", "cascade_reset", "fir_lp", "fir_from_coeffs", "fir_step", "fir_block", "fir_block_in_place", "fir_reset",
+    "j211"};
 
 /* The slices of a call with room behind each, their lengths, and the other arguments. */
 enum slice { NUMBERS, COUNTS, TAPS, SAMPLES, FIR_COUNTS, INPUT, OUTPUT, BUFFER, ANSWER, CLOUDED, SLICES };
@@ -20,8 +23,8 @@ struct lent {
     double numbers[40], taps[80], samples[80], input[80], output[80], buffer[80], answer[4];
     size_t counts[6], fir_counts[6], clouded[4];
     size_t length[SLICES];
-    size_t size, window;
-    double cutoff, high, decibels, rate, x;
+    size_t size, window, channel_class;
+    double cutoff, high, decibels, rate, x, pulse_rate;
 };
 
 static unsigned tried, failed;
@@ -68,6 +71,8 @@ static struct lent good(void) {
     s.decibels = 3;
     s.rate = 1;
     s.x = 1.5;
+    s.channel_class = 60;
+    s.pulse_rate = 10000;
     return s;
 }
 
@@ -94,7 +99,8 @@ static uint8_t call(enum function f, struct lent *s) {
     case FIR_STEP: return pulse_fir_step(TAP_RECORD, s->x, THE_ANSWER);
     case FIR_BLOCK: return pulse_fir_block(TAP_RECORD, THE_INPUT, THE_OUTPUT);
     case FIR_IN_PLACE: return pulse_fir_block_in_place(TAP_RECORD, THE_BUFFER);
-    default: return pulse_fir_reset(TAP_RECORD);
+    case FIR_RESET: return pulse_fir_reset(TAP_RECORD);
+    default: return pulse_j211(s->channel_class, s->pulse_rate, s->buffer, s->length[BUFFER]);
     }
 }
 
@@ -158,7 +164,7 @@ static void spoil(struct lent *s) {
 }
 
 static void wrong_lengths(void) {
-    for (int f = 0; f < FUNCTIONS; f++) {
+    for (int f = 0; f < J211; f++) {
         expect(f, good(), 0, "a good call");
         for (int slice = 0; slice < SLICES; slice++) {
             size_t right = good().length[slice];
@@ -191,7 +197,7 @@ static void refused_count(enum function f, size_t place, size_t value, uint8_t n
 
 static void damaged_states(void) {
     const size_t wide[] = {0, 256, (size_t)1 << 32, (size_t)1 << 63};
-    for (int f = 0; f < FUNCTIONS; f++) {
+    for (int f = 0; f < J211; f++) {
         for (int i = 0; i < 4 && !is_design(f); i++) {
             if (is_cascade(f)) {
                 refused_count(f, PULSE_HAS_FIRST, wide[i] + (i ? 1 : 2), PULSE_BAD_CALL);
@@ -458,6 +464,198 @@ static void blocks_in_place(void) {
         }
 }
 
+/* Whole pulses. */
+static const size_t classes[] = {60, 180, 600, 1000};
+enum { CLASSES = 4 };
+
+/* The greatest rate that 2 refuses. */
+static double limit(size_t channel_class) { return 2 * ((double)channel_class * 2.0775); }
+
+/* A call by its class and rate, with samples and with none. */
+static void expect_pulse(size_t channel_class, double rate, uint8_t number, const char *what) {
+    struct lent s = good();
+    s.channel_class = channel_class;
+    s.pulse_rate = rate;
+    s.length[BUFFER] = 80 - GUARDS;
+    expect(J211, s, number, what);
+    s.length[BUFFER] = 0;
+    expect(J211, s, number, what);
+}
+
+/* 21, also where 3 or 2 could be said, or both. */
+static void refused_class(size_t channel_class) {
+    expect_pulse(channel_class, 10000, PULSE_INVALID_CLASS, "another class");
+    expect_pulse(channel_class, INFINITY, PULSE_INVALID_CLASS, "another class at an infinite rate");
+    expect_pulse(channel_class, NAN, PULSE_INVALID_CLASS, "another class, and the rate a NaN");
+    expect_pulse(channel_class, 1e-3, PULSE_INVALID_CLASS, "another class, and the rate too low");
+    expect_pulse(channel_class, limit(channel_class), PULSE_INVALID_CLASS, "another class, and the rate at its limit");
+    expect_pulse(channel_class, 0, PULSE_INVALID_CLASS, "another class, and the rate 0");
+    expect_pulse(channel_class, -1, PULSE_INVALID_CLASS, "another class, and the rate negative");
+}
+
+/* Numbers about the classes, and numbers that end in the bits of one. */
+static void refused_classes(void) {
+    const size_t others[] = {0, 1, 120, 1002, 2000, SIZE_MAX};
+    const size_t wide[] = {256, 65536, (size_t)1 << 32, (size_t)1 << 63};
+    for (int i = 0; i < 6; i++)
+        refused_class(others[i]);
+    for (int i = 0; i < CLASSES; i++) {
+        refused_class(classes[i] - 1);
+        refused_class(classes[i] + 1);
+        for (int j = 0; j < 4; j++)
+            refused_class(classes[i] + wide[j]);
+    }
+}
+
+/* The rates of a class: 3, also where 2 could be said; then 2 up to the limit; accepted from the next number on. */
+static void pulse_rates(size_t channel_class) {
+    const double most = limit(channel_class), least = 5e-324;
+    const double not_positive[] = {0.0, -0.0, -least, -DBL_MIN, -1, -10000, -DBL_MAX, -INFINITY};
+    const double low[] = {least, DBL_MIN / 2, DBL_MIN, 1, most / 2, nextafter(most, 0), most};
+    const double high[] = {nextafter(most, INFINITY), 2 * most, 10000, DBL_MAX, INFINITY};
+    double nans[4];
+    fill_with_nans(nans, 4);
+    for (int i = 0; i < 8; i++)
+        expect_pulse(channel_class, not_positive[i], PULSE_INVALID_SAMPLE_RATE, "a rate at most 0");
+    for (int i = 0; i < 4; i++)
+        expect_pulse(channel_class, nans[i], PULSE_INVALID_SAMPLE_RATE, "a rate that is a NaN");
+    for (int i = 0; i < 7; i++)
+        expect_pulse(channel_class, low[i], PULSE_INVALID_FREQUENCY, "a rate up to the limit");
+    for (int i = 0; i < 5; i++)
+        expect_pulse(channel_class, high[i], 0, "a rate above the limit");
+}
+
+/* Samples between guard places, and what a call makes of them. */
+struct pulse {
+    double front[GUARDS], places[LONGEST + GUARDS];
+};
+
+/* The moods of fill_with_samples, then subnormal samples, and samples near the largest number. */
+enum { PULSE_MOODS = MOODS + 2 };
+static struct pulse pulse_of(size_t n, int mood) {
+    struct pulse p;
+    fill_with_nans(p.front, GUARDS);
+    fill_with_nans(p.places, LONGEST + GUARDS);
+    fill_with_samples(p.places, n, mood < MOODS ? mood : 0);
+    for (size_t i = 0; i < n && mood >= MOODS; i++)
+        p.places[i] *= mood == MOODS ? 0x1p-1030 : 0x1p1022;
+    return p;
+}
+
+/* Runs the pulse; whether it is accepted and the places around its n samples have their very bits. */
+static int pulse_ran(size_t channel_class, double rate, struct pulse *p, size_t n) {
+    struct pulse before = *p;
+    uint8_t number = pulse_j211(channel_class, rate, p->places, n);
+    return number == 0 && memcmp(p->front, before.front, sizeof before.front) == 0
+        && memcmp(p->places + n, before.places + n, (LONGEST + GUARDS - n) * sizeof(double)) == 0;
+}
+
+/* Classes, rates, and the oracle's tan((PI x (class x 2.0775)) / rate). */
+static const struct tuned {
+    size_t channel_class;
+    double rate, w;
+} tuned[] = {
+    {60, 10000, 0x1.40F660AB23A02p-5},
+    {180, 12500, 0x1.82186FD2A351Ap-4},
+    {600, 20000, 0x1.9633C0C3A95A9p-3},
+    {1000, 10000, 0x1.8761FCDD8DF35p-1},
+    {1000, 0x1.03B0000000001p12, 0x1.C1F559A028549p50}, /* the number behind the limit */
+    {60, INFINITY, 0},
+};
+enum { TUNED = 6 };
+
+/* The recurrence of 02's Q-1: y = a0 x + a1 x1 + a2 x2 + b1 y1 + b2 y2, added left to right. */
+struct recurrence {
+    double a0, a1, a2, b1, b2;
+};
+
+static struct recurrence recurrence(double w) {
+    const double root = 0x1.6A09E667F3BCDp0;
+    double d = (1 + root * w) + w * w, a0 = w * w / d;
+    return (struct recurrence){a0, 2 * a0, a0, -2 * (w * w - 1) / d, ((-1 + root * w) - w * w) / d};
+}
+
+static void pass(struct recurrence r, double *places, size_t n, int backward) {
+    double x1 = 0, x2 = 0, y1 = 0, y2 = 0;
+    for (size_t i = 0; i < n; i++) {
+        double *place = places + (backward ? n - 1 - i : i), x = *place;
+        *place = r.a0 * x + r.a1 * x1 + r.a2 * x2 + r.b1 * y1 + r.b2 * y2;
+        x2 = x1;
+        x1 = x;
+        y2 = y1;
+        y1 = *place;
+    }
+}
+
+static void pulse_and_recurrence(const struct tuned *t, size_t n, int mood) {
+    struct pulse given = pulse_of(n, mood), expected = given;
+    struct recurrence r = recurrence(t->w);
+    pass(r, expected.places, n, 0);
+    pass(r, expected.places, n, 1);
+    check(pulse_ran(t->channel_class, t->rate, &given, n) && same(given.places, expected.places, n), "a pulse beside its recurrence");
+}
+
+/* Every length, its moods each at another class and rate; and some lengths with every mood at every class and rate. */
+static const size_t lengths[] = {0, 1, 2, 3, LONGEST};
+enum { LENGTHS = 5 };
+static void pulses_by_length(void) {
+    for (size_t n = 0; n <= LONGEST; n++)
+        for (int mood = 0; mood < PULSE_MOODS; mood++)
+            pulse_and_recurrence(tuned + (n + (size_t)mood) % TUNED, n, mood);
+    for (int i = 0; i < LENGTHS; i++)
+        for (int j = 0; j < TUNED * PULSE_MOODS; j++)
+            pulse_and_recurrence(tuned + j % TUNED, lengths[i], j / TUNED);
+}
+
+/* A NaN at the first place, in the middle or at the last makes every place a NaN. */
+static void dropouts(const struct tuned *t, size_t n) {
+    const size_t at[] = {0, n / 2, n - 1};
+    double nans[3];
+    fill_with_nans(nans, 3);
+    for (int i = 0; i < 3; i++) {
+        struct pulse p = pulse_of(n, 0);
+        size_t found = 0;
+        memcpy(p.places + at[i], nans + i, sizeof nans[i]);
+        int ran = pulse_ran(t->channel_class, t->rate, &p, n);
+        for (size_t j = 0; j < n; j++)
+            found += isnan(p.places[j]) != 0;
+        check(ran && found == n, "a pulse with a NaN is all NaN");
+    }
+}
+
+/* The ends of a constant, as the header has them; and a sine at the -3 dB point of a pass, half of which two passes leave. */
+static void pulse_numbers(void) {
+    const double turn = 6.283185307179586;
+    struct pulse p;
+    for (int i = 0; i < 256; i++)
+        p.places[i] = 50;
+    check(pulse_j211(60, 10000, p.places, 256) == 0 && fabs(p.places[0] - 25.7) < 0.05 && fabs(p.places[255] - 0.07) < 0.005, "a constant 50");
+    for (int i = 0; i < CLASSES; i++) {
+        double sine[LONGEST], furthest = 0;
+        for (int j = 0; j < LONGEST; j++)
+            sine[j] = p.places[j] = sin(turn * (2.0775 * (double)classes[i]) * j / 10000);
+        int ran = pulse_j211(classes[i], 10000, p.places, LONGEST) == 0;
+        for (int j = LONGEST / 2 - 20; j < LONGEST / 2 + 20; j++)
+            furthest = fmax(furthest, fabs(p.places[j] - sine[j] / 2));
+        check(ran && furthest < 1e-5, "a sine at 2.0775 x the class");
+    }
+}
+
+static void pulses(void) {
+    refused_classes();
+    for (int i = 0; i < CLASSES; i++)
+        pulse_rates(classes[i]);
+    pulses_by_length();
+    for (int i = 0; i < TUNED; i++) {
+        const struct tuned *t = tuned + i;
+        double near = tan(3.141592653589793 * ((double)t->channel_class * 2.0775) / t->rate);
+        check(fabs(t->w - near) <= 1e-9 * near, "a stored tangent beside the C library's");
+        for (int j = 1; j < LENGTHS; j++)
+            dropouts(t, lengths[j]);
+    }
+    pulse_numbers();
+}
+
 int main(void) {
     wrong_lengths();
     damaged_states();
@@ -468,6 +666,7 @@ int main(void) {
     fir_places();
     overflow();
     blocks_in_place();
+    pulses();
     printf("states: %u tried, %u otherwise than expected\n", tried, failed);
     return failed ? 1 : 0;
 }

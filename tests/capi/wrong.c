@@ -62,6 +62,25 @@ enum wrong {
     FIR_REFUSED_WRITES,
     FIR_STATE_STAYS,
     FIR_FORGETS,
+    /* Whole pulses. */
+    J211_FORWARD_ONLY,      /* no backward pass */
+    J211_FORWARD_TWICE,     /* the backward pass runs forward */
+    J211_BACKWARD_FIRST,    /* the backward pass comes first */
+    J211_HISTORY_KEPT,      /* the backward pass goes on from the history of the forward one */
+    J211_LAST_PLACE,        /* the last place is left out */
+    J211_FIRST_PART,        /* answers the first 256 places alone */
+    J211_WRITES_BEHIND,     /* writes one place behind the buffer */
+    J211_LAST_BIT,          /* one answer is the next number */
+    J211_DROPOUT_ZERO,      /* a NaN is taken as 0 */
+    J211_OTHER_CLASS,       /* class 600 is taken as class 180 */
+    J211_CLASS_TRUNCATED,   /* the class is taken modulo 2^32 */
+    J211_CLASS_LAST,        /* 3 and 2 before 21 */
+    J211_LIMIT_FIRST,       /* 2 before 3 */
+    J211_LIMIT_TAKEN,       /* the rate at the limit is accepted */
+    J211_LIMIT_NEXT,        /* the rate next to the limit is refused */
+    J211_NAN_RATE,          /* a rate that is a NaN is refused by 2 */
+    J211_INFINITE_RATE,     /* an infinite rate is refused by 3 */
+    J211_REFUSED_WRITES,    /* a refused call makes the first place 0 */
     WRONGS
 };
 
@@ -362,4 +381,84 @@ REAL(pulse_cascade_block_in_place, CASCADE, PLACE) {
 REAL(pulse_fir_block_in_place, const double *t, size_t tl, TAP_RECORD, PLACE) {
     take_taps(c, cl);
     return ran(FIR_FIRST_PART, (struct filter){t, tl, s, sl, c, cl}, b, bl, k, kl);
+}
+
+/* Whole pulses. */
+#define PULSE size_t class, double rate, double *b, size_t bl
+uint8_t __real_pulse_j211(PULSE);
+
+static double corner(size_t class) { return (double)class * 2.0775; }
+
+/* One pass by the C library's tangent, whose last bits may be others; the history is x1, x2, y1, y2. */
+static void pass(PULSE, int backward, double *history) {
+    double w = tan(acos(-1) * corner(class) / rate), d = 1 + sqrt(2) * w + w * w;
+    double a0 = w * w / d, b1 = -2 * (w * w - 1) / d, b2 = (-1 + sqrt(2) * w - w * w) / d;
+    for (size_t i = 0; i < bl; i++) {
+        double *place = b + (backward ? bl - 1 - i : i), x = *place;
+        *place = a0 * x + 2 * a0 * history[0] + a0 * history[1] + b1 * history[2] + b2 * history[3];
+        history[1] = history[0];
+        history[0] = x;
+        history[3] = history[2];
+        history[2] = *place;
+    }
+}
+
+static void reverse(double *b, size_t bl) {
+    for (size_t i = 0; i < bl / 2; i++) {
+        double x = b[i];
+        b[i] = b[bl - 1 - i];
+        b[bl - 1 - i] = x;
+    }
+}
+
+/* An accepted pulse by wrong passes, or over other places; `b` holds the samples. */
+static void wrong_passes(PULSE) {
+    double history[4] = {0}, zero[4] = {0};
+    if (is(J211_FORWARD_ONLY) || is(J211_FORWARD_TWICE) || is(J211_HISTORY_KEPT)) {
+        pass(class, rate, b, bl, 0, history);
+        if (!is(J211_FORWARD_ONLY))
+            pass(class, rate, b, bl, is(J211_HISTORY_KEPT), is(J211_HISTORY_KEPT) ? history : zero);
+        return;
+    }
+    if (is(J211_BACKWARD_FIRST))
+        reverse(b, bl);
+    for (size_t i = 0; i < bl && is(J211_DROPOUT_ZERO); i++)
+        b[i] = isnan(b[i]) ? 0 : b[i];
+    if ((bl && is(J211_LAST_PLACE)) || (bl > PART && is(J211_FIRST_PART)))
+        bl = is(J211_LAST_PLACE) ? bl - 1 : PART;
+    __real_pulse_j211(class == 600 && is(J211_OTHER_CLASS) ? 180 : class, rate, b, bl);
+    if (is(J211_BACKWARD_FIRST))
+        reverse(b, bl);
+    if (is(J211_WRITES_BEHIND))
+        b[bl] = 0;
+    if (bl && is(J211_LAST_BIT))
+        b[bl / 2] = next(b[bl / 2]);
+}
+
+static uint8_t refused_pulse(uint8_t number, PULSE) {
+    int low = corner(class) >= rate * 0.5;
+    if (bl && is(J211_REFUSED_WRITES))
+        b[0] = 0;
+    if (number == 21 && is(J211_CLASS_LAST))
+        return !(rate > 0) ? 3 : low ? 2 : 21;
+    if (number == 3 && ((low && is(J211_LIMIT_FIRST)) || (isnan(rate) && is(J211_NAN_RATE))))
+        return 2;
+    if (number == 2 && corner(class) == rate * 0.5 && is(J211_LIMIT_TAKEN))
+        return __real_pulse_j211(class, next(rate), b, bl);
+    return number;
+}
+
+REAL(pulse_j211, PULSE) {
+    double none;
+    if (is(J211_CLASS_TRUNCATED))
+        class &= 0xFFFFFFFFu;
+    uint8_t number = __real_pulse_j211(class, rate, &none, 0);
+    if (number)
+        return refused_pulse(number, class, rate, b, bl);
+    if (isinf(rate) && is(J211_INFINITE_RATE))
+        return 3;
+    if (rate == next(2 * corner(class)) && is(J211_LIMIT_NEXT))
+        return 2;
+    wrong_passes(class, rate, b, bl);
+    return 0;
 }
