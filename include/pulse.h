@@ -262,14 +262,23 @@ uint8_t pulse_fir_reset(const double *PULSE_RESTRICT taps, size_t taps_len, doub
 /* A whole pulse. */
 
 /* The samples of `buffer` through a channel class of SAE J211-1, in place: forward from the first place to the last, then
- * backward from the last to the first, each pass from zero history. `channel_class` is 60, 180, 600 or 1000; each pass has
- * its -3 dB point at 2.0775 x channel_class, in the unit of the sample rate. After it every place of `buffer` holds its
- * answer. An empty buffer stays empty; an infinite rate is accepted.
+ * backward from the last to the first, each pass from zero history. After it every place of `buffer` holds its answer. An
+ * empty buffer stays empty.
  *
- * A pulse has no mark: a NaN among the samples makes every place of `buffer` a NaN, and the call returns 0. So look for
- * dropouts before it. A buffer that does not begin and end near zero has wrong ends: at class 60 and a rate of 10000 a
- * constant 50 reads 25.7 in the first place and 0.07 in the last (256 places).
- * 21: another class; then 3: rate NaN or at most 0; then 2: channel_class x 2.0775 at least rate x 0.5. */
+ * `channel_class` is 60, 180, 600 or 1000. With w = tan((PI x (channel_class x 2.0775)) / sample_rate), r the double
+ * 3FF6A09E667F3BCD (the square root of 2) and D = (1 + r w) + w w, a pass answers a sample x by
+ * y = a0 x + a1 x1 + a2 x2 + b1 y1 + b2 y2, added from left to right: a0 = w w / D, a1 = 2 a0, a2 = a0,
+ * b1 = -2 (w w - 1) / D, b2 = ((-1 + r w) - w w) / D; x1 and x2 are the samples before x, newest first, and y1 and y2 their
+ * answers. Each operation rounds once. These are the standard's names: the feedback terms are b1 and b2, and are added.
+ *
+ * Each pass is 3 dB down at 2.0775 x channel_class, in the unit of the sample rate, so both together are 6 dB down there.
+ * An infinite rate is accepted, and finite samples are then answered by 0.
+ *
+ * A pulse has no mark: a NaN among the samples makes every place of `buffer` a NaN, and the call returns 0; an infinity
+ * spoils the buffer too. So look for dropouts before the call. A buffer that does not begin and end near zero has wrong
+ * ends, by zero history: at class 60 and a rate of 10000, 256 places of 50 read 25.7 in the first and 0.07 in the last.
+ *
+ * 21: another class; then 3: rate NaN or at most 0; then 2: channel_class x 2.0775 at least rate x 0.5, both rounded. */
 uint8_t pulse_j211(size_t channel_class, double sample_rate, double *PULSE_RESTRICT buffer, size_t buffer_len);
 
 #ifdef __cplusplus

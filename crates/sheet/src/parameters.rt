@@ -29,6 +29,14 @@ struct OneCount {
     after: usize,
 }
 
+// A count and a float, and the place after them.
+struct CountAndFloat {
+    fault: Fault,
+    n: usize,
+    x: f64,
+    after: usize,
+}
+
 // The place after floats that were read.
 pub(crate) struct Floats {
     pub(crate) fault: Fault,
@@ -143,6 +151,28 @@ pub(crate) fn read_floats(rest: &[u8], from: usize, numbers: &mut [f64]) -> Floa
     }
 }
 
+fn count_and_float(rest: &[u8]) -> CountAndFloat {
+    let count = next_count(rest, 0);
+    let fault = count.fault;
+    let Fault::None = fault else {
+        return CountAndFloat {
+            fault,
+            n: 0,
+            x: 0.0,
+            after: 0,
+        };
+    };
+    let mut numbers = [0.0; 1];
+    let read = read_floats(rest, count.after, &mut numbers);
+    let fault = read.fault;
+    CountAndFloat {
+        fault,
+        n: count.n,
+        x: numbers[0],
+        after: read.after,
+    }
+}
+
 fn no_order(fault: Fault) -> OrderAndFloats {
     OrderAndFloats {
         fault,
@@ -191,13 +221,7 @@ pub(crate) fn fir_parameters(rest: &[u8]) -> FirParameters {
     if token_count(rest) != 3 {
         return no_taps(Fault::TokenCount);
     }
-    let taps = next_count(rest, 0);
-    let fault = taps.fault;
-    let Fault::None = fault else {
-        return no_taps(fault);
-    };
-    let mut numbers = [0.0; 1];
-    let read = read_floats(rest, taps.after, &mut numbers);
+    let read = count_and_float(rest);
     let fault = read.fault;
     let Fault::None = fault else {
         return no_taps(fault);
@@ -205,8 +229,8 @@ pub(crate) fn fir_parameters(rest: &[u8]) -> FirParameters {
     match window_of(bytes_of(rest, next_token(rest, read.after))) {
         WindowName::Window(window) => FirParameters {
             fault: Fault::None,
-            taps: taps.n,
-            cutoff: numbers[0],
+            taps: read.n,
+            cutoff: read.x,
             window,
         },
         WindowName::Unknown => no_taps(Fault::UnknownWindow),
@@ -324,23 +348,17 @@ pub(crate) fn pulse_parameters(rest: &[u8], buffer: &mut [f64]) -> PulseParamete
     if tokens < 3 {
         return no_pulse(Fault::TokenCount);
     }
-    let class = next_count(rest, 0);
-    let fault = class.fault;
-    let Fault::None = fault else {
-        return no_pulse(fault);
-    };
-    let mut numbers = [0.0; 1];
-    let rate = read_floats(rest, class.after, &mut numbers);
-    let fault = rate.fault;
-    let Fault::None = fault else {
-        return no_pulse(fault);
-    };
-    let read = counted_samples(rest, rate.after, tokens, 3, buffer);
+    let read = count_and_float(rest);
     let fault = read.fault;
+    let Fault::None = fault else {
+        return no_pulse(fault);
+    };
+    let samples = counted_samples(rest, read.after, tokens, 3, buffer);
+    let fault = samples.fault;
     PulseParameters {
         fault,
-        class: class.n,
-        sample_rate: numbers[0],
-        samples: read.n,
+        class: read.n,
+        sample_rate: read.x,
+        samples: samples.n,
     }
 }
