@@ -1,6 +1,7 @@
-// Measures the port's archives beside the published Rust, in one process, on the same inputs: ordinary numbers from -1 to 1,
-// nothing subnormal. Each row first checks that its sides answer the same bits; then they run in turn, and the best time of
-// each is taken. Prints Markdown tables. Usage: bench [ROUNDS]; bench/run builds it.
+// Measures the port's archives beside the published Rust, and whole pulses beside the oracle's writing of them, in one process,
+// on the same inputs: ordinary numbers from -1 to 1, nothing subnormal. Each row first checks that its sides answer the same
+// bits; then they run in turn, and the best time of each is taken. Prints Markdown tables. Usage: bench [ROUNDS]; bench/run
+// builds it.
 mod port;
 
 use port::Run;

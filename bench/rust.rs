@@ -75,7 +75,7 @@ pub fn lowpass(order: usize, cutoff: f64, rate: f64) -> Box<dyn Running> {
     }
 }
 
-/// A pulse of each so many places through a channel class.
+/// Pulses of so many places through a channel class, one after the other.
 pub fn j211(class: usize, rate: f64, length: usize, buffer: &mut [f64]) {
     for b in buffer.chunks_mut(length) {
         assert_eq!(j211::filter(class, rate, b), 0);

@@ -262,21 +262,23 @@ uint8_t pulse_fir_reset(const double *PULSE_RESTRICT taps, size_t taps_len, doub
 /* A whole pulse. */
 
 /* The samples of `buffer` through a channel class of SAE J211-1, in place: forward from the first place to the last, then
- * backward from the last to the first, each pass from zero history. After it every place of `buffer` holds its answer. An
- * empty buffer stays empty.
+ * backward from the last to the first. After it every place of `buffer` holds its answer. An empty buffer stays empty.
  *
  * `channel_class` is 60, 180, 600 or 1000. With w = tan((PI x (channel_class x 2.0775)) / sample_rate), r the double
  * 3FF6A09E667F3BCD (the square root of 2) and D = (1 + r w) + w w, a pass answers a sample x by
  * y = a0 x + a1 x1 + a2 x2 + b1 y1 + b2 y2, added from left to right: a0 = w w / D, a1 = 2 a0, a2 = a0,
  * b1 = -2 (w w - 1) / D, b2 = ((-1 + r w) - w w) / D; x1 and x2 are the samples before x, newest first, and y1 and y2 their
- * answers. Each operation rounds once. These are the standard's names: the feedback terms are b1 and b2, and are added.
+ * answers, all four +0 where a pass starts. Each operation rounds once; PI and 2.0775 are their nearest doubles, and tan is the
+ * library's own, so that a C library's may give other last bits. These are the standard's names: b1 and b2 weigh the feedback,
+ * and are added.
  *
- * Each pass is 3 dB down at 2.0775 x channel_class, in the unit of the sample rate, so both together are 6 dB down there.
- * An infinite rate is accepted, and finite samples are then answered by 0.
+ * Each pass is 3 dB down at 2.0775 x channel_class, in the unit of the sample rate. Both together are 6 dB down there, and 3 dB
+ * down at 1.667 x channel_class where the rate is high. A rate just above the limit of 2 filters almost nothing. An infinite
+ * rate is accepted, and finite samples are then answered by 0.
  *
- * A pulse has no mark: a NaN among the samples makes every place of `buffer` a NaN, and the call returns 0; an infinity
- * spoils the buffer too. So look for dropouts before the call. A buffer that does not begin and end near zero has wrong
- * ends, by zero history: at class 60 and a rate of 10000, 256 places of 50 read 25.7 in the first and 0.07 in the last.
+ * A pulse has no mark: a NaN among the samples makes every place of `buffer` a NaN, and the call returns 0; an infinity spoils
+ * the buffer too. So look for both before the call. Since each pass starts from zeros, a buffer that does not begin and end
+ * near zero has wrong ends: at class 60 and a rate of 10000, 256 places of 50 read 25.7 in the first and 0.07 in the last.
  *
  * 21: another class; then 3: rate NaN or at most 0; then 2: channel_class x 2.0775 at least rate x 0.5, both rounded. */
 uint8_t pulse_j211(size_t channel_class, double sample_rate, double *PULSE_RESTRICT buffer, size_t buffer_len);

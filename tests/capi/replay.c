@@ -1,8 +1,8 @@
 /* Replays stored answers of the oracle through the C interface, and compares every number, mark, count and output place.
  * Each block also runs in place, on a copy of the state, and must come to the same. The list is that of the program
- * `replay`, crates/replay/data/answers: tools/replay-list asked the oracle (oracle/build, from the published Rust) and
- * tools/replay.py converted its answers; the latter says how the list is laid out. Its elementary functions are not part of
- * this interface and are passed over.
+ * `replay`, crates/replay/data/answers: tools/replay-list asked the oracle (oracle/build) and tools/replay.py converted its
+ * answers; the latter says how the list is laid out. Its elementary functions are not part of this interface and are passed
+ * over.
  * Usage: replay LIST. Status 0: all agree; 1: a difference, which is shown; 2: no list. */
 #include "pulse.h"
 #include <inttypes.h>

@@ -1,7 +1,7 @@
 // Replays the stored answers of the oracle through the archive from Rust, over slices between guard places (archive.rs), and
-// compares every number, mark, count and output place. Each block also runs in place, on a copy of the
-// state, and must come to the same. It needs nothing but rustc, the archive and the list, whose layout tools/replay.py says:
-// replay.c reads the same one.
+// compares every number, mark, count and output place. Each block also runs in place, on a copy of the state, and must come to
+// the same. It needs nothing but rustc, the archive and the list, whose layout tools/replay.py says: replay.c reads the same
+// one.
 // Usage: replay LIST. Status 0: all agree; 1: a difference, which is shown, or no list.
 mod archive;
 #[allow(dead_code)]

@@ -1,6 +1,6 @@
 /* Tries what the stored answers of the oracle cannot have: slices of wrong lengths, damaged states, two reasons for a refusal
  * at once, every place of a state after a call, blocks in place beside blocks over two arrays, and whole pulses of any length
- * beside their recurrence. The expected numbers are written here from include/pulse.h, the recurrence from 02. After each refusal all slices, and the
+ * beside their recurrence. The expected numbers are written here from include/pulse.h. After each refusal all slices, and the
  * guard places behind them, must be bit for bit as before, also where they hold NaNs of any bits.
  * Usage: states. Status 0: all as expected; 1: a difference, which is shown. */
 #include "pulse.h"
@@ -623,7 +623,7 @@ static void dropouts(const struct tuned *t, size_t n) {
     }
 }
 
-/* The ends of a constant, as the header has them; and a sine at the -3 dB point of a pass, half of which two passes leave. */
+/* The ends of a constant, as the header has them; and a sine at the -3 dB point of a pass, of which two passes leave half. */
 static void pulse_numbers(void) {
     const double turn = 6.283185307179586;
     struct pulse p;

@@ -389,9 +389,25 @@ uint8_t __real_pulse_j211(PULSE);
 
 static double corner(size_t class) { return (double)class * 2.0775; }
 
-/* One pass by the C library's tangent, whose last bits may be others; the history is x1, x2, y1, y2. */
+static double factorial(int k) { return k < 2 ? 1 : k * factorial(k - 1); }
+
+/* 01's tangent of an angle from 0 to pi / 2. */
+static double tangent(double x) {
+    double q = nearbyint(x * 0x1.45F306DC9C883p-1), r = x - q * 0x1.921FB544p0 - q * 0x1.0B4611A626331p-34;
+    double s = r * r, sine = 0, cosine = 0;
+    for (int k = 16; k >= 2; k -= 2) {
+        double sign = k % 4 ? -1 : 1;
+        sine = sign / factorial(k + 1) + s * sine;
+        cosine = sign / factorial(k) + s * cosine;
+    }
+    sine = r + r * s * sine;
+    cosine = 1 + s * cosine;
+    return q == 0 ? sine / cosine : cosine / -sine;
+}
+
+/* One pass, forward or backward; the history is x1, x2, y1, y2. */
 static void pass(PULSE, int backward, double *history) {
-    double w = tan(acos(-1) * corner(class) / rate), d = 1 + sqrt(2) * w + w * w;
+    double w = tangent(acos(-1) * corner(class) / rate), d = 1 + sqrt(2) * w + w * w;
     double a0 = w * w / d, b1 = -2 * (w * w - 1) / d, b2 = (-1 + sqrt(2) * w - w * w) / d;
     for (size_t i = 0; i < bl; i++) {
         double *place = b + (backward ? bl - 1 - i : i), x = *place;

@@ -135,7 +135,8 @@ fn pass_backward(k: Coefficients, buffer: &mut [f64])
 }
 
 // A pulse through a class, forward and then backward, each pass from zero history: 0, or the number that refuses the
-// class or the rate, and then the buffer is as it was. A NaN among the samples makes every place a NaN.
+// class or the rate, and then the buffer is as it was. Where a place of an accepted pulse is a NaN, it may be any NaN; one
+// NaN among the samples makes every place a NaN.
 pub fn filter(class: usize, sample_rate: f64, buffer: &mut [f64]) -> u8
     ensures { λ r. ⌜ (r ≡ refusal class «sample_rate») × (now (buffer .exit) ≡ filtered class «sample_rate» (now (buffer .entry))) ⌝ }
 {

@@ -1,4 +1,4 @@
--- A list by its places: its length and elements; a list of equals, its rest and turned round; a part of a list; and a list of four.
+-- A list by its places: its length and elements; a list of equals, its rest and its reverse; a part of a list; and a list of four.
 use mathlib.Core.Path.{_≡_, refl, ap, _∙_}
 use mathlib.Core.Bool.{Bool, true, false}
 use mathlib.Core.List.{List, [], _∷_, _++_, map, reverse, reverse-cons}

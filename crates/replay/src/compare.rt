@@ -8,7 +8,7 @@ use runs::Answer;
 
 const NONE: usize = usize::MAX;
 
-// The most numbers that a request has: a block's samples or places, or ready-made taps.
+// The most numbers that a request has: a block's samples or places, a pulse's samples, or ready-made taps.
 pub(crate) const MOST: usize = 256;
 
 // Compares w with the stored word at the place.

@@ -13,7 +13,7 @@ fn meets_pulse(stored: &[u64], refusal: u8, places: &[f64]) -> bool {
     meet_floats(place, stored, places, places.len()) == stored.len()
 }
 
-// The pulse in these places.
+// Whether the pulse in these places is answered as stored.
 fn pulse(asked: &[u64], stored: &[u64], places: &mut [f64]) -> bool {
     let refusal = j211::filter(word(asked, 0) as usize, float(asked, 1), places);
     meets_pulse(stored, refusal, places)

@@ -247,8 +247,8 @@ fn no_samples(fault: Fault) -> Samples
     }
 }
 
-// A number of samples, and the samples, which go into the first places of `numbers`. The line has so many tokens; `others`
-// of them are no samples.
+// A number of samples, and the samples, which go into the first places of `numbers`. `tokens` is how many the line has after
+// its word; `others` of them are no samples.
 fn counted_samples(
     rest: &[u8],
     from: usize,

@@ -9,7 +9,7 @@ use super::put::put_done;
 use super::put::put_floats;
 use super::records::Records;
 
-// The pulse in these places.
+// Filters the pulse in these places, and puts its refusal or `done` and the places after the call.
 fn put_pulse(
     output: &mut [u8],
     at: usize,
