@@ -4,9 +4,5 @@ use Rattle.j211.specs.J211.{coefficientsOf}
 use Rattle.j211.proofs.coefficients_of.Statement.{statement}
 use Rattle.j211.proofs.coefficients_of.Tie as tie
 
-returns : tie.Need-returns
-unfolding coefficientsOf
-returns c = refl
-
 pub coefficients-of-spec : {M : Type 1} → statement M
-coefficients-of-spec = tie.close (tie.spec returns)
+coefficients-of-spec = tie.close (tie.spec (λ c. unfold coefficientsOf in refl))

@@ -4,9 +4,5 @@ use Rattle.j211.specs.J211.{outputOf}
 use Rattle.j211.proofs.output.Statement.{statement}
 use Rattle.j211.proofs.output.Tie as tie
 
-returns : tie.Need-returns
-unfolding outputOf
-returns c = refl
-
 pub output-spec : {M : Type 1} → statement M
-output-spec = tie.close (tie.spec returns)
+output-spec = tie.close (tie.spec (λ c. unfold outputOf in refl))
