@@ -71,11 +71,14 @@ extern "C" {
 #define PULSE_INVALID_FREQUENCY 2   /* a cutoff or band edge that is a NaN or out of its range */
 #define PULSE_INVALID_SAMPLE_RATE 3 /* a sample rate that is a NaN or at most 0 */
 #define PULSE_INVALID_RIPPLE 4      /* decibels that are a NaN or at most 0 */
-#define PULSE_SHORT_OUTPUT 5        /* a block's output shorter than its input */
+#define PULSE_SHORT_OUTPUT 5        /* an output with fewer places than there are samples */
 #define PULSE_BAD_CASCADE 11        /* more than 4 sections, or no section and no first-order part */
 #define PULSE_BAD_TAPS 12           /* length 0 or above 64, held count above the length, or window code above 4 */
 #define PULSE_BAD_CALL 13           /* a slice of another length than asked for, a flag above 1, or a design's window code above 3 */
 #define PULSE_INVALID_CLASS 21      /* a channel class other than 60, 180, 600 and 1000 */
+#define PULSE_INVALID_HEADER 22     /* an empty block, a header length below 4 or past its end, or channels outside 1 to 8 */
+#define PULSE_TRUNCATED_BLOCK 23    /* samples that run past the end of their block */
+#define PULSE_CHANNEL_NOT_PRESENT 24 /* a channel number at or above the channel count of its block */
 
 /* Limits of the designs. */
 #define PULSE_MAX_ORDER 8           /* low pass, high pass, Chebyshev I and II */
@@ -282,6 +285,25 @@ uint8_t pulse_fir_reset(const double *PULSE_RESTRICT taps, size_t taps_len, doub
  *
  * 21: another class; then 3: rate NaN or at most 0; then 2: channel_class x 2.0775 at least rate x 0.5, both rounded. */
 uint8_t pulse_j211(size_t channel_class, double sample_rate, double *PULSE_RESTRICT buffer, size_t buffer_len);
+
+/* A block of the rival recorder. */
+
+/* One channel of `block`. Byte 0 is the header length in bytes, byte 1 the channel count, bytes 2 and 3 are the samples per
+ * channel; header bytes from 4 on are skipped. Samples start after the header: signed 16-bit two's complement, channel 0, 1 and
+ * so on, then the next instant. Every number has its low byte first. Bytes past the samples are ignored.
+ *
+ * After it the first places of `output` hold the samples of `channel`, a number from 0 on, its later places what they held, and
+ * `count` how many samples there are: as many as the block has for each channel, 0 to 65535. The code -32768 marks a dropout and
+ * becomes a NaN, which may be any NaN; every other code becomes exactly its number. Nothing else tells of a dropout, so look for
+ * a NaN before a filter: pulse_j211 makes a whole pulse NaN of one.
+ *
+ * 13: count_len is not 1; then 22: block_len is 0, a header length below 4 or above block_len, or a channel count of 0 or above
+ * 8; then 23: header length + 2 x channel count x samples per channel above block_len; then 24: `channel` at or above the
+ * channel count; then 5: output_len below the samples per channel. A refusal leaves `count` too: it is not set to 0. */
+#define PULSE_COUNT_LEN 1
+#define PULSE_MAX_CHANNELS 8
+uint8_t pulse_read_channel(const uint8_t *PULSE_RESTRICT block, size_t block_len, size_t channel,
+                           double *PULSE_RESTRICT output, size_t output_len, size_t *PULSE_RESTRICT count, size_t count_len);
 
 #ifdef __cplusplus
 }

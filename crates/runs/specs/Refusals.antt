@@ -40,3 +40,15 @@ BadCall = 13
 -- 02's Q-1: not a channel class
 abbrev pub InvalidClass : ℕ
 InvalidClass = 21
+
+-- 02's Q-2: no header of the rival's
+abbrev pub InvalidHeader : ℕ
+InvalidHeader = 22
+
+-- samples that run past the end of their block
+abbrev pub TruncatedBlock : ℕ
+TruncatedBlock = 23
+
+-- a channel that its block does not have
+abbrev pub ChannelNotPresent : ℕ
+ChannelNotPresent = 24

@@ -30,6 +30,14 @@ pub const BAD_CALL: u8 = 13;
 // From 02's Q-1: not a channel class.
 pub const INVALID_CLASS: u8 = 21;
 
+// From 02's Q-2: no header of the rival's, samples that run past the end of their block, and a channel that its block does not
+// have.
+pub const INVALID_HEADER: u8 = 22;
+
+pub const TRUNCATED_BLOCK: u8 = 23;
+
+pub const CHANNEL_NOT_PRESENT: u8 = 24;
+
 // 01's run answer.
 pub enum Answer {
     // The number, from finite samples alone.

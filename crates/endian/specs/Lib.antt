@@ -1,0 +1,2 @@
+-- Endian: whole numbers as bytes, low byte first.
+pub mod Endian
