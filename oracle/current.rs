@@ -57,7 +57,7 @@ impl Current {
 
     /// The Rust has no blocks: its single updates in order, into the first of the output's places.
     pub fn block(&mut self, xs: &[f64], length: usize, out: &mut Vec<u8>) {
-        let mut places: Vec<f64> = (0..length).map(|i| (1000 + i) as f64).collect();
+        let mut places = places(length);
         match &mut self.filter {
             None => refuse(self.blank, out),
             Some(_) if length < xs.len() => refuse(SHORT_OUTPUT, out),
@@ -81,6 +81,11 @@ impl Current {
         filter.reset();
         out.extend_from_slice(b"done");
     }
+}
+
+/// An output before a call.
+pub fn places(length: usize) -> Vec<f64> {
+    (0..length).map(|i| (1000 + i) as f64).collect()
 }
 
 pub fn refuse(number: u8, out: &mut Vec<u8>) {

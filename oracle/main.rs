@@ -1,17 +1,18 @@
 // The oracle: answers the request lines of the protocol page on standard input by the published Rust. Marks, refusal numbers,
-// limits and blocks are 01's, beside the Rust's filter. j211 is answered by j211.rs alone, from the text of 02, since the Rust
-// has no channel classes.
+// limits and blocks are 01's, beside the Rust's filter. j211 and rival are answered by j211.rs and rival.rs alone, from the text
+// of 02, since the Rust has no channel classes and does not read the rival's blocks.
 mod cascades;
 mod core;
 mod current;
 mod elementary;
 mod j211;
+mod rival;
 mod taps;
 mod text;
 
 use crate::core::filters::FilterError;
 use cascades::Kind;
-use current::{refuse, Current};
+use current::{places, refuse, Current};
 use std::io::{BufRead, BufReader, BufWriter, Write};
 
 const LONGEST_LINE: usize = 8192;
@@ -93,6 +94,7 @@ impl Bench {
             }
             b"cblock" | b"fblock" => self.block(word, rest, out),
             b"j211" => self.j211(rest, out),
+            b"rival" => self.rival(rest, out),
             b"creset" | b"freset" => {
                 want(rest.is_empty())?;
                 Ok(self.current(word).reset(out))
@@ -155,6 +157,22 @@ impl Bench {
             k => refuse(k, out),
         }
         Ok(text::push_floats(out, buffer))
+    }
+
+    /// Touches neither current filter.
+    fn rival(&self, rest: &[&[u8]], out: &mut Vec<u8>) -> Result<(), Bad> {
+        want(rest.len() == 3)?;
+        let (channel, length) = (count(rest[0])?, count(rest[1])?);
+        if length > LONGEST_BLOCK {
+            return Err(TOO_MANY);
+        }
+        let block = text::pairs(rest[2]).ok_or(BAD_NUMBER)?;
+        let mut output = places(length);
+        match rival::read_channel(&block, channel, &mut output) {
+            (0, samples) => write!(out, "done {samples}").unwrap(),
+            (k, _) => refuse(k, out),
+        }
+        Ok(text::push_floats(out, output))
     }
 
     /// The answer to a line without its end; nothing for a blank line or a comment.

@@ -1,6 +1,10 @@
 // Makes request lines of the protocol page, good and bad, for the comparison of two programs. The same arguments make the same
-// lines. First comes a sweep over every word, order, window, number of taps, small block and channel class, then lines by chance.
-// Usage: requests LINES SEED [plain]. `plain` keeps to printable characters, tabs and line ends, for a list that is stored.
+// lines. First comes a sweep over every word, order, window, number of taps, small block, channel class and short block of the
+// rival's, then lines by chance.
+// Usage: requests LINES SEED [plain]. `plain` is for a list that is stored: it keeps to printable characters, tabs and line ends,
+// and has fewer and shorter blocks of the rival's.
+mod requests_rival;
+
 use std::io::{BufWriter, Write};
 
 const FUNCTIONS: [&str; 9] = ["sqrt", "ln", "sin", "cos", "tan", "exp", "sinh", "cosh", "pow10"];
@@ -531,7 +535,7 @@ impl<W: Write> Maker<W> {
 
     /// A good line of any kind but a design.
     fn good(&mut self) {
-        match self.dice.below(5) {
+        match self.dice.below(6) {
             0 => self.function(),
             1 => {
                 let kind = self.dice.pick(&["cblock", "fblock"]);
@@ -542,6 +546,7 @@ impl<W: Write> Maker<W> {
                 self.word(kind)
             }
             3 => self.some_j211(),
+            4 => self.some_rival(),
             _ => {
                 let kind = self.dice.pick(&["cstep", "fstep"]);
                 self.word(kind);
@@ -551,11 +556,12 @@ impl<W: Write> Maker<W> {
     }
 
     fn by_chance(&mut self) {
-        match self.dice.below(100) {
+        match self.dice.below(109) {
             0..=19 => self.run(),
             20..=58 => self.designs(),
             59..=79 => self.functions(),
             80..=88 => self.classes(),
+            89..=97 => self.rivals(),
             _ => {
                 self.malformed();
                 self.end()
@@ -588,6 +594,7 @@ impl<W: Write> Maker<W> {
                     self.line.push(byte)
                 }
             }
+            8 => self.bad_rival(),
             _ => self.mutated(),
         }
     }
@@ -604,7 +611,7 @@ impl<W: Write> Maker<W> {
         let taps = self.dice.from(257, 300);
         let kind = self.dice.pick(&["cblock", "fblock"]);
         let (class, rate) = (self.dice.pick(&CLASSES), self.usual_rate());
-        match self.dice.below(6) {
+        match self.dice.below(7) {
             0 => self.ready_made(taps),
             1 => self.block(kind, 257, 257, 1000),
             2 => self.block(kind, 2, many, 1000),
@@ -613,6 +620,7 @@ impl<W: Write> Maker<W> {
                 self.class_head(class, rate, many);
                 self.sample(1000)
             }
+            5 => self.too_many_places(many),
             _ => {
                 self.word(kind);
                 self.whole(many);
@@ -621,10 +629,10 @@ impl<W: Write> Maker<W> {
         }
     }
 
-    /// A line of about 8,192 bytes, on either side.
+    /// A line of about 8,192 bytes, on either side. A block of the rival's so long is not for a list that is stored.
     fn about_longest(&mut self) {
         let length = LONGEST_LINE - 2 + self.dice.below(5) as usize;
-        match self.dice.below(5) {
+        match self.dice.below(if self.plain { 5 } else { 6 }) {
             0 => self.line.resize(length, b' '),
             1 => self.line.resize(length, b'#'),
             2 => {
@@ -633,9 +641,13 @@ impl<W: Write> Maker<W> {
                 self.line.push(b'4')
             }
             3 => self.line.resize(length + self.dice.below(20_000) as usize, b'x'),
-            _ => {
+            4 => {
                 self.good();
                 self.line.resize(length, b' ')
+            }
+            _ => {
+                self.line.extend_from_slice(b"rival 0 3 04010200");
+                self.line.resize(length, b'0')
             }
         }
         if self.dice.one_in(4) {
@@ -645,10 +657,11 @@ impl<W: Write> Maker<W> {
 
     /// A good line with one thing changed.
     fn mutated(&mut self) {
-        match self.dice.below(5) {
+        match self.dice.below(6) {
             0 => self.some_pass(),
             1 => self.some_fir(),
             2 => self.some_j211(),
+            3 => self.some_rival(),
             _ => self.good(),
         }
         let starts: Vec<usize> = (0..self.line.len()).filter(|i| self.line[*i] == b' ').collect();
@@ -703,6 +716,7 @@ impl<W: Write> Maker<W> {
         self.sweep_spellings();
         self.sweep_classes();
         self.sweep_class_errors();
+        self.sweep_rivals();
     }
 
     /// Good and bad tokens in several places, ends of lines, comments, too many samples, lines about the longest.

@@ -19,8 +19,22 @@ fn hexadecimal(token: &[u8]) -> Option<f64> {
     if token.len() != 16 {
         return None;
     }
-    let bits = token.iter().try_fold(0, |sum: u64, c| Some(sum << 4 | (*c as char).to_digit(16)? as u64))?;
+    let bits = token.iter().try_fold(0, |sum: u64, c| Some(sum << 4 | digit(*c)? as u64))?;
     Some(f64::from_bits(bits))
+}
+
+/// A hexadecimal digit of either case.
+fn digit(c: u8) -> Option<u8> {
+    (c as char).to_digit(16).map(|d| d as u8)
+}
+
+/// Bytes: pairs of hexadecimal digits, or `-` for none.
+pub fn pairs(token: &[u8]) -> Option<Vec<u8>> {
+    match token {
+        b"-" => Some(Vec::new()),
+        _ if token.len() % 2 == 1 => None,
+        _ => token.chunks(2).map(|pair| Some(digit(pair[0])? << 4 | digit(pair[1])?)).collect(),
+    }
 }
 
 /// At most 15 digits after the leading zeros and at most 22 after the point: a whole number and a power of ten that a

@@ -12,8 +12,8 @@ The list is a text of words, 16 hexadecimal digits each, parted by a space or a 
 requests. Each other line is a request: its kind's number, how many words it asks, how many its answer has, the words
 asked and the answer's words. A float's word is its bits, and any NaN's is 7FF8000000000000.
 
-The words asked are those of the line; a window is its code, a block's output length stands before its samples, and a
-pulse's number of samples is left out. The answer's words:
+The words asked are those of the line; a window is its code, a block's output length stands before its samples, a pulse's
+number of samples is left out, and each byte of a rival's block is a word of its own. The answer's words:
 
 - an elementary function: the number
 - a design or ready-made taps: the refusal number or 0, the answer's two counts, which are 0 of a refused one's blank record,
@@ -22,13 +22,14 @@ pulse's number of samples is left out. The answer's words:
 - a block: the refusal number or 0, the count of Clouded, and the output's places
 - a reset: the refusal number or 0
 - a pulse through a channel class: the refusal number or 0, and the buffer's places
+- a channel of a rival's block: the refusal number or 0, the sample count, which is 0 where refused, and the output's places
 """
 import re
 import struct
 
 SOURCES = ["examples/replay", "examples/filters"]
 KINDS = ["lowpass", "highpass", "bandpass", "chebyshev1", "chebyshev2", "cstep", "cblock", "creset", "fir", "taps", "fstep", "fblock",
-         "freset", "j211", "sqrt", "sin", "cos", "tan", "exp", "ln", "sinh", "cosh", "pow10"]
+         "freset", "j211", "rival", "sqrt", "sin", "cos", "tan", "exp", "ln", "sinh", "cosh", "pow10"]
 WINDOWS = ["rectangular", "hamming", "hanning", "blackman"]
 NAN = 0x7FF8000000000000
 LONGEST = 8192
@@ -54,6 +55,8 @@ def asked(kind, rest):
         return [int(rest[0]), int(rest[-1])] + numbers(rest[1:-1])
     if kind == "j211":
         return [int(rest[0]), number(rest[1])] + numbers(rest[3:])
+    if kind == "rival":
+        return [int(rest[0]), int(rest[1])] + list(bytes.fromhex(rest[2].strip("-")))
     if KINDS.index(kind) < 5:
         return [int(rest[0])] + numbers(rest[1:])
     return numbers(rest)
@@ -67,7 +70,7 @@ def answered(kind, word, rest):
         refusal = int(rest[0])
         if kind in ("cstep", "fstep"):
             return [2, refusal]
-        if kind in ("cblock", "fblock"):
+        if kind in ("cblock", "fblock", "rival"):
             return [refusal, 0] + numbers(rest[1:])
         return [refusal] if kind in ("creset", "freset") else [refusal, 0, 0]
     if word == "done":
