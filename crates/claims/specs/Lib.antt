@@ -1,8 +1,10 @@
 -- What is claimed of designs and filters. Refused: refusals by the checks. Fresh: what is accepted is fresh. Forgetting: the forgetting rule over the
 -- definitions. Lists: the same of lists of calls. Sheet: the release sheet. Dropout: what a NaN does to a pulse that a channel class filters.
+-- Recordings: reading the rival's blocks.
 pub mod Refused
 pub mod Fresh
 pub mod Forgetting
 pub mod Lists
 pub mod Sheet
 pub mod Dropout
+pub mod Recordings

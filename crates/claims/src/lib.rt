@@ -6,6 +6,7 @@ ghost use Rattle.claims.specs.Forgetting.{CascadeRule, FirRule};
 ghost use Rattle.claims.specs.Lists.{CascadeCallsRule, FirCallsRule, CCascadeRule, CFirRule};
 ghost use Rattle.claims.specs.Sheet.{ReleaseSheet};
 ghost use Rattle.claims.specs.Dropout.{Dropout};
+ghost use Rattle.claims.specs.Recordings.{RivalBlocks};
 use cascade::Cascade;
 use fir::TapRecord;
 
@@ -63,4 +64,10 @@ pub fn release_sheet()
 // 02's Q-1: a NaN among the samples of a pulse makes every place a NaN. It is said of NaN, and does not hold of infinities.
 pub fn j211_dropout()
     ensures { λ _. ⌜ Dropout ⌝ }
+{}
+
+// 02's Q-2: a channel of a block as the rival writes it is read as its samples, nothing but such a block is accepted, and every
+// code but the dropout's becomes exactly its number.
+pub fn rival_blocks()
+    ensures { λ _. ⌜ RivalBlocks ⌝ }
 {}
