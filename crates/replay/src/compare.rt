@@ -8,7 +8,7 @@ use runs::Answer;
 
 const NONE: usize = usize::MAX;
 
-// The most numbers that a request has: a block's samples or places, a pulse's samples, or ready-made taps.
+// The most numbers that a request has: an output's places, a block's or a pulse's samples, or ready-made taps.
 pub(crate) const MOST: usize = 256;
 
 // Compares w with the stored word at the place.
@@ -57,16 +57,17 @@ pub(crate) fn meet_floats(place: usize, stored: &[u64], xs: &[f64], n: usize) ->
     place
 }
 
-// Whether a block's answer is as stored: 0 or the refusal number, the count of Clouded, and the output's first places.
+// Whether a block's answer is as stored: 0 or the refusal number, the count of Clouded, and the output's first places. A channel
+// is answered alike, by the count of its samples.
 pub(crate) fn meets_block(
     stored: &[u64],
     refusal: u8,
-    clouded: usize,
+    count: usize,
     output: &[f64; MOST],
     long: usize,
 ) -> bool {
     let place = meet(0, stored, refusal as u64);
-    let place = meet(place, stored, clouded as u64);
+    let place = meet(place, stored, count as u64);
     meet_floats(place, stored, output, long) == stored.len()
 }
 
@@ -100,7 +101,7 @@ pub(crate) fn floats(words: &[u64], from: usize) -> [f64; MOST]
     xs
 }
 
-// A block's output before the call: 1000, 1001, and so on.
+// An output before the call: 1000, 1001, and so on.
 pub(crate) fn places() -> [f64; MOST]
     ensures { λ r. ⌜ 256 ≡ length r ⌝ }
 {

@@ -32,25 +32,28 @@ pub(crate) const FRESET: usize = 12;
 // A whole pulse through a channel class.
 pub(crate) const J211: usize = 13;
 
+// A channel of the rival's block.
+pub(crate) const RIVAL: usize = 14;
+
 // The elementary functions, of which pow10 is the last.
-pub(crate) const SQRT: usize = 14;
+pub(crate) const SQRT: usize = 15;
 
-pub(crate) const SIN: usize = 15;
+pub(crate) const SIN: usize = 16;
 
-pub(crate) const COS: usize = 16;
+pub(crate) const COS: usize = 17;
 
-pub(crate) const TAN: usize = 17;
+pub(crate) const TAN: usize = 18;
 
-pub(crate) const EXP: usize = 18;
+pub(crate) const EXP: usize = 19;
 
-pub(crate) const LN: usize = 19;
+pub(crate) const LN: usize = 20;
 
-pub(crate) const SINH: usize = 20;
+pub(crate) const SINH: usize = 21;
 
-pub(crate) const COSH: usize = 21;
+pub(crate) const COSH: usize = 22;
 
 // How many kinds there are.
-pub(crate) const KINDS: usize = 23;
+pub(crate) const KINDS: usize = 24;
 
 // The bytes of a kind's name, with a space behind it.
 const WIDTH: usize = 11;
@@ -92,7 +95,7 @@ fn print_name(kind: usize) {
         );
     } else if kind < SQRT {
         print_nth(
-            b"fir        taps       fstep      fblock     freset     j211       ",
+            b"fir        taps       fstep      fblock     freset     j211       rival      ",
             kind - FIR,
         );
     } else {

@@ -2,6 +2,7 @@
 // the stored one, word by word. Prints how many requests of each kind there were and how many agreed. tools/replay.py
 // makes the file.
 mod cascades;
+mod channels;
 mod compare;
 mod functions;
 mod kinds;
@@ -14,8 +15,16 @@ use fir::TapRecord;
 use kinds::COUNTS;
 use libc::STDOUT_FILENO;
 
+// Whether a request that is on no filter is answered as stored: a function, a pulse or a channel, by its kind.
+fn on_no_filter(kind: usize, asked: &[u64], stored: &[u64]) -> bool {
+    let mut alike = functions::request(kind, asked, stored);
+    pulses::request(kind, asked, stored, &mut alike);
+    channels::request(kind, asked, stored, &mut alike);
+    alike
+}
+
 // Replays the list, and counts the requests of each kind and those that agreed. Answers whether the list is whole: so many
-// requests as it says, and no more. Each request goes to the four groups of kinds, of which one takes it.
+// requests as it says, and no more. Each request goes to every group of kinds, of which one takes it.
 fn replay(fd: i32, counts: &mut [u64; COUNTS], agreed: &mut [u64; COUNTS]) -> bool {
     let requests = list::read_word(fd);
     let mut cascade = Cascade::blank();
@@ -29,10 +38,9 @@ fn replay(fd: i32, counts: &mut [u64; COUNTS], agreed: &mut [u64; COUNTS]) -> bo
         let h = list::read_request(fd, &mut asked, &mut stored);
         let asked = list::front(&asked, h.asked);
         let stored = list::front(&stored, h.stored);
-        let mut alike = functions::request(h.kind, asked, stored);
+        let mut alike = on_no_filter(h.kind, asked, stored);
         cascade = cascades::request(h.kind, cascade, asked, stored, &mut alike);
         filter = taps::request(h.kind, filter, asked, stored, &mut alike);
-        pulses::request(h.kind, asked, stored, &mut alike);
         kinds::count(counts, agreed, h.kind, alike);
         good = h.good;
     }

@@ -3,6 +3,7 @@ use super::answered::Answered;
 use super::answered::answer_fault;
 use super::answered::end_answer;
 use super::cascades::answer_cascade;
+use super::channels::answer_rival;
 use super::fault::Fault;
 use super::filters::answer_fir;
 use super::filters::answer_taps;
@@ -33,6 +34,7 @@ fn answer_request(
         Request::Fir => answer_fir(rest, output, at, records),
         Request::Taps => answer_taps(rest, output, at, records),
         Request::J211 => answer_j211(rest, output, at, records),
+        Request::Rival => answer_rival(rest, output, at, records),
         Request::Function(f) => {
             let at = answer_function(f, rest, output, at);
             end_answer(output, at, records)

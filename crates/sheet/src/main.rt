@@ -6,6 +6,7 @@ ghost use lib.ListN.{length};
 mod answer;
 mod answered;
 mod cascades;
+mod channels;
 mod fault;
 mod filters;
 mod functions;

@@ -12,10 +12,16 @@ use text_answers::CountToken;
 use text_answers::FloatToken;
 use text_answers::count_token;
 use text_answers::float_token;
+use text_answers::is_pairs;
 use text_answers::next_token;
+use text_answers::put_pairs;
+use text_answers::same_bytes;
 
-// The most samples of a block or a pulse, places of a block's output, and ready-made taps of a line.
+// The most samples of a block or a pulse, places of an output, and ready-made taps of a line.
 pub(crate) const MOST: usize = 256;
+
+// The most bytes of a line's block, two digits each.
+pub(crate) const MOST_BYTES: usize = 4096;
 
 pub(crate) struct OneFloat {
     pub(crate) fault: Fault,
@@ -80,6 +86,20 @@ pub(crate) struct PulseParameters {
     pub(crate) class: usize,
     pub(crate) sample_rate: f64,
     pub(crate) samples: usize,
+}
+
+// What reading a channel takes, and how many bytes the block has.
+pub(crate) struct ChannelParameters {
+    pub(crate) fault: Fault,
+    pub(crate) channel: usize,
+    pub(crate) places: usize,
+    pub(crate) bytes: usize,
+}
+
+// The bytes of a token, and whether it is none.
+struct Bytes {
+    fault: Fault,
+    n: usize,
 }
 
 // That nothing is given.
@@ -280,6 +300,21 @@ fn counted_samples(
     }
 }
 
+// The length of an output.
+fn next_places(rest: &[u8], from: usize) -> OneCount
+    ensures { λ r. ⌜ r .n ≤ 256 ⌝ }
+{
+    let l = next_count(rest, from);
+    if l.n > MOST {
+        return OneCount {
+            fault: Fault::TooManySamples,
+            n: 0,
+            after: l.after,
+        };
+    }
+    l
+}
+
 fn no_block(fault: Fault) -> Lengths
     ensures { λ r. ⌜ (r .samples ≤ 256) × (r .places ≤ 256) ⌝ }
 {
@@ -295,19 +330,12 @@ fn with_places(rest: &[u8], from: usize, samples: usize) -> Lengths
     requires { ⌜ samples ≤ 256 ⌝ }
     ensures { λ r. ⌜ (r .samples ≤ 256) × (r .places ≤ 256) ⌝ }
 {
-    let l = next_count(rest, from);
+    let l = next_places(rest, from);
     let fault = l.fault;
-    let Fault::None = fault else {
-        return no_block(fault);
-    };
-    let places = l.n;
-    if places > MOST {
-        return no_block(Fault::TooManySamples);
-    }
     Lengths {
-        fault: Fault::None,
+        fault,
         samples,
-        places,
+        places: l.n,
     }
 }
 
@@ -361,4 +389,80 @@ pub(crate) fn pulse_parameters(rest: &[u8], buffer: &mut [f64]) -> PulseParamete
         sample_rate: read.x,
         samples: samples.n,
     }
+}
+
+fn no_channel(fault: Fault) -> ChannelParameters
+    ensures { λ r. ⌜ (r .places ≤ 256) × (r .bytes ≤ 4096) ⌝ }
+{
+    ChannelParameters {
+        fault,
+        channel: 0,
+        places: 0,
+        bytes: 0,
+    }
+}
+
+// Pairs of hexadecimal digits, or `-` for none. The bytes go into the first places.
+fn next_bytes(rest: &[u8], from: usize, bytes: &mut [u8]) -> Bytes
+    ensures { λ r. ⌜ r .n ≤ length (now (bytes .entry)) ⌝ }
+{
+    let token = bytes_of(rest, next_token(rest, from));
+    if same_bytes(token, b"-") {
+        return Bytes {
+            fault: Fault::None,
+            n: 0,
+        };
+    }
+    if !is_pairs(token) {
+        return Bytes {
+            fault: Fault::BadNumber,
+            n: 0,
+        };
+    }
+    Bytes {
+        fault: Fault::None,
+        n: put_pairs(token, bytes),
+    }
+}
+
+// With the block, which follows the channel's number and the length of the output.
+fn with_bytes(
+    rest: &[u8],
+    from: usize,
+    channel: usize,
+    places: usize,
+    block: &mut [u8],
+) -> ChannelParameters
+    requires { ⌜ places ≤ 256 ⌝ ∗ ⌜ length (now block) ≤ 4096 ⌝ }
+    ensures { λ r. ⌜ (r .places ≤ 256) × (r .bytes ≤ 4096) ⌝ }
+{
+    let read = next_bytes(rest, from, block);
+    let fault = read.fault;
+    ChannelParameters {
+        fault,
+        channel,
+        places,
+        bytes: read.n,
+    }
+}
+
+// The channel's number, the length of the output, and the block, whose bytes go into the first places of `block`.
+pub(crate) fn channel_parameters(rest: &[u8], block: &mut [u8]) -> ChannelParameters
+    requires { ⌜ length (now block) ≤ 4096 ⌝ }
+    ensures { λ r. ⌜ (r .places ≤ 256) × (r .bytes ≤ 4096) ⌝ }
+{
+    if token_count(rest) != 3 {
+        return no_channel(Fault::TokenCount);
+    }
+    let channel = next_count(rest, 0);
+    let fault = channel.fault;
+    let Fault::None = fault else {
+        return no_channel(fault);
+    };
+    let places = next_places(rest, channel.after);
+    let fault = places.fault;
+    let Fault::None = fault else {
+        return no_channel(fault);
+    };
+    with_bytes(rest, places.after, channel.n, places.n, block)
 }

@@ -58,12 +58,13 @@ pub(crate) fn put_answer(output: &mut [u8], at: usize, answer: Answer) -> usize 
     }
 }
 
-// What a block answers: its refusal or its number of clouded answers, and the output's places after the call.
+// What a block answers: its refusal or its number of clouded answers, and the output's places after the call. Reading a channel
+// answers alike, by its number of samples.
 pub(crate) fn put_block(
     output: &mut [u8],
     at: usize,
     refusal: u8,
-    clouded: usize,
+    count: usize,
     places: &[f64],
 ) -> usize {
     if refusal != 0 {
@@ -71,7 +72,7 @@ pub(crate) fn put_block(
         return put_floats(output, at, places);
     }
     let at = put_bytes(output, at, b"done ");
-    let at = put_count(output, at, clouded as u64);
+    let at = put_count(output, at, count as u64);
     put_floats(output, at, places)
 }
 

@@ -46,8 +46,8 @@ pub(crate) fn answer_step(
     }
 }
 
-// The output's places before a block: 1000, 1001 and so on.
-fn places_before() -> [f64; MOST] {
+// An output's places before a call: 1000, 1001 and so on.
+pub(crate) fn places_before() -> [f64; MOST] {
     let mut places = [0.0; MOST];
     let mut x = 1000.0;
     let mut i: usize = 0;

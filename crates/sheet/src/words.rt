@@ -7,7 +7,8 @@ use design_fir::WindowType;
 use text_answers::next_token;
 use text_answers::same_bytes;
 
-// The designs are Cascade and Fir; Taps is ready-made taps; J211 is a pulse through a channel class.
+// The designs are Cascade and Fir; Taps is ready-made taps; J211 is a pulse through a channel class,
+// and Rival a channel of the rival's block.
 pub(crate) enum Request {
     Step(RecordKind),
     Block(RecordKind),
@@ -16,6 +17,7 @@ pub(crate) enum Request {
     Fir,
     Taps,
     J211,
+    Rival,
     Function(Function),
     Unknown,
 }
@@ -47,7 +49,7 @@ fn place(words: &[u8], word: &[u8]) -> usize {
 
 pub(crate) fn request_of(word: &[u8]) -> Request {
     match place(
-        b"cstep fstep cblock fblock creset freset fir taps j211",
+        b"cstep fstep cblock fblock creset freset fir taps j211 rival",
         word,
     ) {
         0 => Request::Step(RecordKind::Cascade),
@@ -59,6 +61,7 @@ pub(crate) fn request_of(word: &[u8]) -> Request {
         6 => Request::Fir,
         7 => Request::Taps,
         8 => Request::J211,
+        9 => Request::Rival,
         _ => design_of(word),
     }
 }

@@ -1,2 +1,3 @@
--- PROTOCOL.md: floats as they are written. All over bytes.
+-- PROTOCOL.md: floats and bytes as they are written. All over bytes.
 pub mod Numbers
+pub mod Pairs

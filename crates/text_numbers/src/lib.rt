@@ -1,9 +1,11 @@
-// Floats in their written forms: bits, names, or decimals with a sign and a point.
+// Floats in their written forms: bits, names, or decimals with a sign and a point; and bytes as pairs of hexadecimal digits.
 ghost use mathlib.Core.Path.{_≡_};
-ghost use Prim.Native.Nat.{_≤_};
+ghost use Prim.Native.Nat.{_+_, _*_, _/_, _≤_, min};
 ghost use lib.ListN.{length};
-ghost use Rattle.text_decimals.specs.Decimals.{valueAfter};
+ghost use Rattle.lists.specs.Copies.{copied};
+ghost use Rattle.text_decimals.specs.Decimals.{digit as Decimals·digit, valueAfter};
 ghost use Rattle.text_numbers.specs.Numbers.{unsigned as Numbers·unsigned, negated as Numbers·negated};
+ghost use Rattle.text_numbers.specs.Pairs.{isPairs, pairsOf};
 ghost use Rattle.text_numbers.specs.Numbers.{signed as Numbers·signed, named as Numbers·named, bitsOf, floatOf};
 use text_decimals::FloatToken;
 use text_decimals::decimal;
@@ -113,4 +115,40 @@ pub fn float_token(token: &[u8]) -> FloatToken
         BitsToken::Bits(bits) => FloatToken::Number(ieee::from_bits(bits)),
         BitsToken::NotBits => named(token),
     }
+}
+
+// Whether a token is pairs of hexadecimal digits.
+pub fn is_pairs(token: &[u8]) -> bool
+    ensures { λ r. ⌜ r ≡ isPairs (now (token .entry)) ⌝ }
+{
+    if token.len() % 2 != 0 {
+        return false;
+    }
+    run_of(Class::HexDigit, token, 0) == token.len()
+}
+
+// The byte of two digits, the higher one first.
+fn pair(high: u8, low: u8) -> u8
+    ensures { λ r. ⌜ r ≡ Decimals·digit high * 16 + Decimals·digit low ⌝ }
+{
+    (digit(high) * 16 + digit(low)) as u8
+}
+
+// The bytes that pairs write, into the first places, as far as both go. Returns how many.
+pub fn put_pairs(token: &[u8], bytes: &mut [u8]) -> usize
+    ensures { λ r. ⌜ (r ≡ min (length (now (token .entry)) / 2) (length (now (bytes .entry))))
+        × (now (bytes .exit) ≡ copied (pairsOf (now (token .entry))) (now (bytes .entry))) ⌝ }
+{
+    let pairs = token.len() / 2;
+    let n = if pairs < bytes.len() {
+        pairs
+    } else {
+        bytes.len()
+    };
+    let mut i: usize = 0;
+    while i < n {
+        bytes[i] = pair(token[2 * i], token[2 * i + 1]);
+        i += 1;
+    }
+    n
 }

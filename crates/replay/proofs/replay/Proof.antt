@@ -20,4 +20,4 @@ replay-spec =
     tie.close
     (tie.spec Inv-loop μ-loop (λ c κs. search needs) (λ c κs. search needs) (λ c κs. search needs) (λ c. tt) (λ c. omega arith)
     (λ c κs. search needs) (λ c κs. search needs) (λ c κs. search needs) (λ c κs. search needs) (λ c κs. search needs)
-    (λ c κs. search needs) (λ c κs. search needs) (λ c κs. search needs) loop-less (λ c. tt) (λ c κs. search needs) (λ c. search needs))
+    (λ c κs. search needs) (λ c κs. search needs) loop-less (λ c. tt) (λ c κs. search needs) (λ c. search needs))

@@ -6,10 +6,10 @@ use Rattle.replay.proofs.kinds.report.Statement.{statement}
 use Rattle.replay.proofs.kinds.report.Tie as tie
 
 abbrev Inv-loop : tie.InvT-loop
-Inv-loop counts agreed i₀ i = i ≤ 23
+Inv-loop counts agreed i₀ i = i ≤ 24
 
 abbrev μ-loop : tie.MeasureT-loop
-μ-loop counts agreed i₀ i = 23 - i
+μ-loop counts agreed i₀ i = 24 - i
 
 pub report-spec : {M : Type 1} → statement M
 report-spec =
