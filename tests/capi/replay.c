@@ -212,11 +212,15 @@ static int read_words(FILE *list, uint64_t *words, size_t count) {
     return 1;
 }
 
+/* Whether a channel's answer has as many words as its output asks for. */
+static int is_channel(const uint64_t *head) { return head[1] >= 2 && head[2] >= 2 && asked[1] == head[2] - 2; }
+
 /* Reads a request and replays it: 1 where it agrees, 0 where it is passed over, -1 where it differs or cannot be read. */
 static int request(FILE *list, size_t line) {
     uint64_t head[3];
     size_t n = 0;
-    if (!read_words(list, head, 3) || head[1] > MOST || head[2] > MOST || !read_words(list, asked, head[1]) || !read_words(list, expected, head[2])) {
+    if (!read_words(list, head, 3) || head[1] > MOST || head[2] > MOST || !read_words(list, asked, head[1]) || !read_words(list, expected, head[2])
+        || (head[0] == RIVAL && !is_channel(head))) {
         printf("request %zu of the list cannot be read\n", line);
         return -1;
     }
