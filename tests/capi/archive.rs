@@ -19,6 +19,7 @@ extern "C" {
     fn pulse_fir_block_in_place(taps: *const f64, taps_len: usize, samples: *mut f64, samples_len: usize, counts: *mut usize, counts_len: usize, buffer: *mut f64, buffer_len: usize, clouded: *mut usize, clouded_len: usize) -> u8;
     fn pulse_fir_reset(taps: *const f64, taps_len: usize, samples: *mut f64, samples_len: usize, counts: *mut usize, counts_len: usize) -> u8;
     fn pulse_j211(channel_class: usize, rate: f64, buffer: *mut f64, buffer_len: usize) -> u8;
+    fn pulse_read_channel(block: *const u8, block_len: usize, channel: usize, output: *mut f64, output_len: usize, count: *mut usize, count_len: usize) -> u8;
 }
 
 const GUARDS: usize = 8;
@@ -31,7 +32,7 @@ struct Guarded<T> {
 }
 
 impl<T: Copy + PartialEq> Guarded<T> {
-    /// `shift` more places in front, so that slices start at any multiple of eight bytes.
+    /// `shift` more places in front, so that slices start at any multiple of eight bytes, a block at any byte.
     fn new(slice: &[T], shift: usize, guard: T) -> Guarded<T> {
         let front = GUARDS + shift;
         let mut places = vec![guard; front];
@@ -56,22 +57,23 @@ impl<T: Copy + PartialEq> Guarded<T> {
 
 struct Lent {
     floats: [Guarded<f64>; 7],
-    wholes: [Guarded<usize>; 3],
+    wholes: [Guarded<usize>; 4],
+    block: Guarded<u8>,
 }
 
 impl Lent {
     fn new(s: &Slices, shift: usize) -> Lent {
         let floats = [&s.numbers, &s.taps, &s.samples, &s.input, &s.output, &s.buffer, &s.answer].map(|f| Guarded::new(f, shift, 123.456));
-        let wholes = [&s.counts, &s.fir_counts, &s.clouded].map(|w| Guarded::new(w, shift, 123_456));
-        Lent { floats, wholes }
+        let wholes = [&s.counts, &s.fir_counts, &s.clouded, &s.count].map(|w| Guarded::new(w, shift, 123_456));
+        Lent { floats, wholes, block: Guarded::new(&s.block, shift, 123) }
     }
     fn back(self, s: &mut Slices) -> bool {
-        let mut good = true;
+        let mut good = self.block.back(&mut s.block);
         let floats = [&mut s.numbers, &mut s.taps, &mut s.samples, &mut s.input, &mut s.output, &mut s.buffer, &mut s.answer];
         for (guarded, slice) in self.floats.into_iter().zip(floats) {
             good &= guarded.back(slice);
         }
-        for (guarded, slice) in self.wholes.into_iter().zip([&mut s.counts, &mut s.fir_counts, &mut s.clouded]) {
+        for (guarded, slice) in self.wholes.into_iter().zip([&mut s.counts, &mut s.fir_counts, &mut s.clouded, &mut s.count]) {
             good &= guarded.back(slice);
         }
         good
@@ -83,6 +85,7 @@ pub fn call(call: &Call, slices: &mut Slices, shift: usize) -> (u8, bool) {
     let mut lent = Lent::new(slices, shift);
     let number = match call.function {
         J211 => pulse(call, &mut lent),
+        ReadChannel => channel(call, &mut lent),
         function if function.is_cascade() => cascade(call, &mut lent),
         _ => fir(call, &mut lent),
     };
@@ -91,7 +94,7 @@ pub fn call(call: &Call, slices: &mut Slices, shift: usize) -> (u8, bool) {
 
 fn cascade(call: &Call, lent: &mut Lent) -> u8 {
     let [numbers, _, _, input, output, buffer, answer] = &mut lent.floats;
-    let [counts, _, clouded] = &mut lent.wholes;
+    let [counts, _, clouded, _] = &mut lent.wholes;
     let (n, nl, c, cl) = (numbers.start(), numbers.len(), counts.start(), counts.len());
     let v = |i: usize| call.floats[i];
     unsafe {
@@ -111,7 +114,7 @@ fn cascade(call: &Call, lent: &mut Lent) -> u8 {
 
 fn fir(call: &Call, lent: &mut Lent) -> u8 {
     let [_, taps, samples, input, output, buffer, answer] = &mut lent.floats;
-    let [_, counts, clouded] = &mut lent.wholes;
+    let [_, counts, clouded, _] = &mut lent.wholes;
     let (t, tl, s, sl, c, cl) = (taps.start(), taps.len(), samples.start(), samples.len(), counts.start(), counts.len());
     unsafe {
         match call.function {
@@ -128,4 +131,11 @@ fn fir(call: &Call, lent: &mut Lent) -> u8 {
 fn pulse(call: &Call, lent: &mut Lent) -> u8 {
     let [_, _, _, _, _, buffer, _] = &mut lent.floats;
     unsafe { pulse_j211(call.size, call.floats[0], buffer.start(), buffer.len()) }
+}
+
+fn channel(call: &Call, lent: &mut Lent) -> u8 {
+    let [_, _, _, _, output, _, _] = &mut lent.floats;
+    let [_, _, _, count] = &mut lent.wholes;
+    let block = &mut lent.block;
+    unsafe { pulse_read_channel(block.start(), block.len(), call.size, output.start(), output.len(), count.start(), count.len()) }
 }

@@ -1,8 +1,8 @@
 // Compares the archive of the C interface with the published Rust, call by call: the same call and slices to the archive
 // (archive.rs), and to the designs of the published Rust (published.rs) and a model of running and of refusals (model.rs),
-// beside which the published filters run; a whole pulse to the oracle's channel classes (j211.rs). Returned numbers, counts and
-// every place of every slice must agree: bits, a NaN matching any NaN; after a refusal, and where a call may not write, the very
-// bits. Stops at the first difference.
+// beside which the published filters run; a whole pulse to the oracle's channel classes (j211.rs), and a channel of a block to its
+// reading of the rival's blocks (rival.rs). Returned numbers, counts and every place of every slice must agree: bits, a NaN matching
+// any NaN; after a refusal, and where a call may not write, the very bits. Stops at the first difference.
 // Usage: compare [CALLS [SEED]]. tests/capi/run builds it as a library and links it with the archive, and once more with a
 // deliberately wrong one (wrong.c).
 mod archive;
@@ -17,6 +17,7 @@ mod j211;
 mod maker;
 mod model;
 mod published;
+mod rival;
 mod slices;
 #[allow(dead_code)]
 mod taps;
@@ -30,14 +31,16 @@ use slices::{difference, Call, Function, Function::*, Slices, FUNCTIONS};
 
 const LONGEST_BLOCK: usize = 300;
 const LONGEST_IN_PLACE: usize = 600;
+const BAD_CALL: u8 = 13;
 
-/// The functions that take a block or a pulse, and the most samples that they are asked for.
-const BLOCKS: [(Function, usize); 5] = [
+/// The functions that take a block or a pulse or read a channel, and the most samples that they are asked for.
+const BLOCKS: [(Function, usize); 6] = [
     (CascadeBlock, LONGEST_BLOCK),
     (FirBlock, LONGEST_BLOCK),
     (CascadeInPlace, LONGEST_IN_PLACE),
     (FirInPlace, LONGEST_IN_PLACE),
     (J211, LONGEST_IN_PLACE),
+    (ReadChannel, LONGEST_BLOCK),
 ];
 
 /// The number of a Rust error.
@@ -62,7 +65,20 @@ fn numbers(function: Function) -> &'static [u8] {
         FirStep | FirInPlace | FirReset => &[0, 12, 13],
         FirBlock => &[0, 5, 12, 13],
         J211 => &[0, 2, 3, 21],
+        ReadChannel => &[0, 5, 13, 22, 23, 24],
     }
+}
+
+/// What the call of a channel returns, with its output and its count in the slices.
+fn read_channel(call: &Call, s: &mut Slices) -> u8 {
+    if s.count.len() != 1 {
+        return BAD_CALL;
+    }
+    let (number, samples) = rival::read_channel(&s.block, call.size, &mut s.output);
+    if number == 0 {
+        s.count[0] = samples;
+    }
+    number
 }
 
 struct Session {
@@ -71,17 +87,17 @@ struct Session {
     filters: Filters,
     calls: u64,
     /// How often each function returned each number.
-    tally: [[u64; 22]; 16],
+    tally: [[u64; 25]; 17],
     /// Answers compared, and how many of them were a NaN.
     answers: [u64; 2],
     /// Which lengths ran, of each of BLOCKS.
-    lengths: [[bool; LONGEST_IN_PLACE + 1]; 5],
+    lengths: [[bool; LONGEST_IN_PLACE + 1]; 6],
 }
 
 impl Session {
     fn new(seed: u64) -> Session {
-        let tally = [[0; 22]; 16];
-        let lengths = [[false; LONGEST_IN_PLACE + 1]; 5];
+        let tally = [[0; 25]; 17];
+        let lengths = [[false; LONGEST_IN_PLACE + 1]; 6];
         Session { dice: Dice(seed), state: Slices::blank(), filters: Filters::default(), calls: 0, tally, answers: [0; 2], lengths }
     }
 
@@ -91,6 +107,9 @@ impl Session {
         let mut after = before.clone();
         if call.function == J211 {
             return (j211::filter(call.size, call.floats[0], &mut after.buffer), after);
+        }
+        if call.function == ReadChannel {
+            return (read_channel(call, &mut after), after);
         }
         let mut number = model::refusal(call, before);
         if number == 0 && call.function.is_design() {
@@ -118,7 +137,8 @@ impl Session {
             _ => difference(call, number != 0, &expected, &given),
         };
         if let Some(found) = found {
-            return Err(format!("call {}, {call:?}, counts {:?} and {:?}: {found}", self.calls, expected.counts, expected.fir_counts));
+            let block = &expected.block[..expected.block.len().min(4)];
+            return Err(format!("call {}, {call:?}, counts {:?} and {:?}, block {block:?}: {found}", self.calls, expected.counts, expected.fir_counts));
         }
         self.count(call, number, &given);
         if live {
@@ -137,6 +157,7 @@ impl Session {
             _ if call.function.is_step() => &given.answer[..],
             _ if call.function.is_block() => &given.output[..given.input.len()],
             _ if call.function.is_in_place() || call.function == J211 => &given.buffer[..],
+            _ if call.function == ReadChannel => &given.output[..given.count[0]],
             _ => &[],
         };
         self.answers[0] += answers.len() as u64;
@@ -190,7 +211,7 @@ impl Session {
 
     fn turn(&mut self) -> Result<(), String> {
         self.clean()?;
-        match self.dice.below(100) {
+        match self.dice.below(106) {
             0..=9 => {
                 let function = self.dice.pick(&[LowPass, HighPass, BandPass, Chebyshev1, Chebyshev2]);
                 self.live(function)
@@ -207,11 +228,12 @@ impl Session {
             71 => self.live(CascadeReset),
             72..=73 => self.live(FirReset),
             74..=79 => self.live(J211),
+            80..=85 => self.live(ReadChannel),
             _ => self.damaged(),
         }
     }
 
-    /// A function and a number that never came, or a length of a block or a pulse that never ran.
+    /// A function and a number that never came, or a length of a block, a pulse or a channel that never ran.
     fn missing(&self) -> Option<String> {
         for function in FUNCTIONS {
             for number in numbers(function) {

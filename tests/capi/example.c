@@ -1,7 +1,8 @@
 /* An example of the C interface: a Butterworth low pass of order 4 and a FIR of 31 Hamming taps, each designed, fed a step
- * and a block, and reset; a whole pulse through channel class 60; then a design and a block that are refused. Answers are
- * printed as bit patterns, in the form of docs/PROTOCOL.md, so that the oracle and the program `sheet` answer the lines of
- * example.requests with the same output: example.answers. */
+ * and a block, and reset; a whole pulse through channel class 60; a channel of a block of the rival recorder, read and put
+ * through the same class; then a design and a block that are refused. Answers are printed as bit patterns, in the form of
+ * docs/PROTOCOL.md, so that the oracle and the program `sheet` answer the lines of example.requests with the same output:
+ * example.answers. */
 #include "pulse.h"
 #include <inttypes.h>
 #include <stdio.h>
@@ -13,6 +14,10 @@ static double taps[PULSE_TAPS_LEN], samples[PULSE_SAMPLES_LEN];
 static size_t fir_counts[PULSE_FIR_COUNTS_LEN];
 
 static const double pulse[6] = {0.5, 20.25, -3.75, 0.125, -0.5, 1.0};
+
+/* A header of 6 bytes, then channels 0 and 1 at six instants. Channel 1 holds 0, 120, 850, 1200, 400 and -35. */
+static const uint8_t recorded[30] = {6, 2, 6, 0, 0x52, 0x01, 0x05, 0x00, 0x00, 0x00, 0xFB, 0xFF, 0x78, 0x00, 0x11, 0x00, 0x52, 0x03,
+                                     0xD4, 0xFE, 0xB0, 0x04, 0x02, 0x00, 0x90, 0x01, 0x00, 0x00, 0xDD, 0xFF};
 
 static void print_bits(const double *x, size_t n) {
     for (size_t i = 0; i < n; i++) {
@@ -32,11 +37,12 @@ static void print_step(uint8_t refusal, const double *answer, size_t clouded) {
     printf("\n");
 }
 
-static void print_block(uint8_t refusal, const double *output, size_t length, size_t clouded) {
+/* The count is that of Clouded, or of a channel's samples. */
+static void print_block(uint8_t refusal, const double *output, size_t length, size_t count) {
     if (refusal)
         printf("refused %u", refusal);
     else
-        printf("done %zu", clouded);
+        printf("done %zu", count);
     print_bits(output, length);
     printf("\n");
 }
@@ -81,13 +87,35 @@ static void fir(void) {
 }
 
 /* In place: the buffer holds the samples, and afterwards the answers. */
+static void filter_pulse(double *buffer, size_t length) {
+    uint8_t refusal = pulse_j211(60, 10000, buffer, length);
+    printf(refusal ? "refused %u" : "done", refusal);
+    print_bits(buffer, length);
+    printf("\n");
+}
+
 static void whole_pulse(void) {
     double buffer[6];
     memcpy(buffer, pulse, sizeof buffer);
-    uint8_t refusal = pulse_j211(60, 10000, buffer, 6);
-    printf(refusal ? "refused %u" : "done", refusal);
-    print_bits(buffer, 6);
-    printf("\n");
+    filter_pulse(buffer, 6);
+}
+
+/* Whether a sample is a dropout, which would make the whole pulse a NaN. */
+static int has_dropout(const double *samples, size_t length) {
+    for (size_t i = 0; i < length; i++)
+        if (samples[i] != samples[i])
+            return 1;
+    return 0;
+}
+
+/* The output has room for 8 samples; the block holds 6 for each channel, so that its last places stay. */
+static void recorded_channel(void) {
+    double output[8] = {1000, 1001, 1002, 1003, 1004, 1005, 1006, 1007};
+    size_t count = 0;
+    uint8_t refusal = pulse_read_channel(recorded, sizeof recorded, 1, output, 8, &count, PULSE_COUNT_LEN);
+    print_block(refusal, output, 8, count);
+    if (!refusal && !has_dropout(output, count))
+        filter_pulse(output, count);
 }
 
 /* An output that is too short, and an order that is too large: the output and the filter stay as they are. */
@@ -104,6 +132,7 @@ int main(void) {
     cascade();
     fir();
     whole_pulse();
+    recorded_channel();
     refused();
     return 0;
 }

@@ -141,7 +141,46 @@ impl Dice {
         Call { function: J211, size: class, window: 0, floats: vec![self.class_rate(class)], x: 0.0 }
     }
 
-    /// A call of the function, its own slices among the given ones. A block, in place or not, or a pulse has `samples` samples.
+    /// Bytes by chance, some codes among them about a limit. A code starts at an even place.
+    fn bytes(&mut self, n: usize) -> Vec<u8> {
+        let mut bytes: Vec<u8> = std::iter::repeat_with(|| self.next().to_le_bytes()).take(n.div_ceil(8)).flatten().take(n).collect();
+        for _ in 0..self.below(8) * n.min(1) {
+            let code: i16 = self.pick(&[-32768, -32768, -32767, -32766, -256, -1, 0, 1, 255, 256, 32767]);
+            let at = self.below(n) / 2 * 2;
+            bytes.splice(at..(at + 2).min(n), code.to_le_bytes());
+            bytes.truncate(n);
+        }
+        bytes
+    }
+    /// A block of the rival recorder with `samples` samples for each of the channels, and `more` bytes behind them.
+    fn block(&mut self, channels: usize, samples: usize, more: usize) -> Vec<u8> {
+        let header = match self.below(8) {
+            0..=2 => 4,
+            3 => self.pick(&[5, 8, 254, 255]),
+            _ => 4 + self.below(16),
+        };
+        let mut block = self.bytes(header);
+        block[..4].copy_from_slice(&[header as u8, channels as u8, samples as u8, (samples >> 8) as u8]);
+        block.extend(self.bytes(2 * channels * samples + more));
+        block
+    }
+    /// An output of any bits for `samples` samples, at times too short.
+    fn output(&mut self, samples: usize) -> Vec<f64> {
+        let more = self.pick(&[0, 0, 1, 2, 17, 40]);
+        let places = if samples > 0 && self.one_in(12) { self.below(samples) } else { samples + more };
+        (0..places).map(|_| self.special()).collect()
+    }
+    /// A channel of a good block; at times the block has no samples or a few.
+    fn channel_call(&mut self, samples: usize, s: &mut Slices) -> Call {
+        let samples = if self.one_in(8) { self.below(3) } else { samples };
+        let (channels, more) = (1 + self.below(8), self.pick(&[0, 0, 0, 1, 2, 15]));
+        s.block = self.block(channels, samples, more);
+        s.output = self.output(samples);
+        Call { function: ReadChannel, size: self.below(channels), window: 0, floats: vec![], x: 0.0 }
+    }
+
+    /// A call of the function, its own slices among the given ones. A block, in place or not, a pulse or a channel has `samples`
+    /// samples.
     pub fn call(&mut self, function: Function, samples: usize, s: &mut Slices) -> Call {
         let most = match function {
             BandPass => 4,
@@ -150,17 +189,19 @@ impl Dice {
         };
         s.answer = vec![self.special()];
         s.clouded = vec![self.pick(&[0, 1, 77, usize::MAX])];
-        (s.input, s.output, s.buffer) = (vec![], vec![], vec![]);
+        s.count = vec![self.pick(&[0, 1, 77, usize::MAX])];
+        (s.input, s.output, s.buffer, s.block) = (vec![], vec![], vec![], vec![]);
         if function == J211 {
             return self.pulse_call(samples, s);
+        }
+        if function == ReadChannel {
+            return self.channel_call(samples, s);
         }
         if function.is_in_place() {
             s.buffer = self.samples(samples);
         } else if function.is_block() {
             s.input = self.samples(samples);
-            let more = self.pick(&[0, 0, 1, 2, 17, 40]);
-            let places = if samples > 0 && self.one_in(12) { self.below(samples) } else { samples + more };
-            s.output = (0..places).map(|_| self.special()).collect();
+            s.output = self.output(samples);
         } else if function == FirCoeffs {
             let n = if self.one_in(8) { self.pick(&[0, 65, 66, 100, 300]) } else { 1 + self.below(64) };
             s.input = self.samples(n);
@@ -189,9 +230,37 @@ impl Dice {
         }
     }
 
-    /// One thing wrong with the call: a length, a flag, a count, a window code; of a pulse its class or its rate.
+    /// One thing wrong with the call of a channel: the length of `count`, the header length, the channel count, the samples per
+    /// channel, the length of the block, the channel, the length of the output.
+    fn damage_channel(&mut self, call: &mut Call, s: &mut Slices) {
+        let end = s.block.len();
+        let samples = if end < 4 { 0 } else { u16::from_le_bytes([s.block[2], s.block[3]]) };
+        let any = self.next() as u8;
+        match self.below(8) {
+            0 => s.count.resize(self.pick(&[0, 2, 3]), 7),
+            1 if end > 0 => s.block[0] = self.pick(&[0, 3, 3, 5, end as u8, (end + 1) as u8, (end + 1) as u8, 255, any]),
+            2 if end > 1 => s.block[1] = self.pick(&[0, 0, 9, 9, 128, 255, any]),
+            3 if end > 3 => {
+                let wrong = self.pick(&[samples.wrapping_add(1), samples ^ 256, 0x1000, 0x2000, 0x4000, 0x8000, 0xFFFF]);
+                s.block[2..4].copy_from_slice(&wrong.to_le_bytes());
+            }
+            4 => s.block.truncate(self.pick(&[0, 1, 2, 3, 4, 5, end.saturating_sub(1), end.saturating_sub(1), end.saturating_sub(2)])),
+            5 | 6 => {
+                let channels = *s.block.get(1).unwrap_or(&1) as usize;
+                let wide = self.pick(&[1 << 8, 1 << 32, 1 << 63]);
+                call.size = self.pick(&[channels, channels, channels + 1, 255, call.size.wrapping_add(wide), usize::MAX]);
+            }
+            _ => s.output.truncate((samples as usize).saturating_sub(1 + self.below(2))),
+        }
+    }
+
+    /// One thing wrong with the call: a length, a flag, a count, a window code; of a pulse its class or its rate; of a channel
+    /// anything.
     pub fn damage(&mut self, call: &mut Call, s: &mut Slices) {
         let f = call.function;
+        if f == ReadChannel {
+            return self.damage_channel(call, s);
+        }
         let near = |n: usize| [n + 1, n + 2, 256 + n, (1 << 32) + n, 1 << 63, usize::MAX];
         let kind = self.below(3);
         if kind == 0 && f != J211 {

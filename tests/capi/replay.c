@@ -10,8 +10,9 @@
 #include <stdlib.h>
 #include <string.h>
 
-enum { LOW_PASS, HIGH_PASS, BAND_PASS, CHEBYSHEV1, CHEBYSHEV2, CASCADE_STEP, CASCADE_BLOCK, CASCADE_RESET, FIR, TAPS, FIR_STEP, FIR_BLOCK, FIR_RESET, J211 };
-enum { MOST = 1000, FIRST_OUTPUT = 1000 };
+enum { LOW_PASS, HIGH_PASS, BAND_PASS, CHEBYSHEV1, CHEBYSHEV2, CASCADE_STEP, CASCADE_BLOCK, CASCADE_RESET, FIR, TAPS, FIR_STEP, FIR_BLOCK, FIR_RESET, J211,
+       RIVAL };
+enum { MOST = 4096, FIRST_OUTPUT = 1000 }; /* a line of the protocol has at most 8192 bytes, so a block fewer than 4096 */
 
 struct state {
     double numbers[PULSE_NUMBERS_LEN];
@@ -25,6 +26,7 @@ static struct state now;
 
 static uint64_t asked[MOST], expected[MOST], given[MOST];
 static double floats[MOST], output[MOST], buffer[MOST];
+static uint8_t bytes[MOST];
 
 static double number(uint64_t word) {
     double x;
@@ -160,8 +162,26 @@ static size_t pulse(size_t words, uint8_t *refusal, int *left) {
     return put(1, buffer, samples);
 }
 
+/* A channel of a rival's block. *left: whether the block, the places behind the output, and the count and the output of a refused
+ * call are as they were. */
+static size_t channel(size_t words, uint8_t *refusal, int *left) {
+    size_t length = words - 2, places = asked[1], count = 99;
+    for (size_t i = 0; i < length; i++)
+        bytes[i] = (uint8_t)asked[2 + i];
+    for (size_t i = 0; i < MOST; i++)
+        output[i] = floats[i] = (double)(FIRST_OUTPUT + i);
+    *refusal = pulse_read_channel(bytes, length, asked[0], output, places, &count, PULSE_COUNT_LEN);
+    size_t written = *refusal ? 0 : places;
+    *left = memcmp(output + written, floats + written, (MOST - written) * sizeof *output) == 0 && (!*refusal || count == 99);
+    for (size_t i = 0; i < length; i++)
+        *left &= bytes[i] == asked[2 + i];
+    given[0] = *refusal;
+    given[1] = *refusal ? 0 : count;
+    return put(2, output, places);
+}
+
 /* Calls the function; what is wrong, or none: a refused call that changed the state, a block in place that came to something
- * else, or a pulse that wrote a place that it leaves. The answer's words go to `given`, *n of them. */
+ * else, or a pulse or a channel that wrote what it leaves. The answer's words go to `given`, *n of them. */
 static const char *called(uint64_t kind, size_t words, size_t *n) {
     struct state before = now;
     uint8_t refusal = 0;
@@ -171,6 +191,7 @@ static const char *called(uint64_t kind, size_t words, size_t *n) {
     case CASCADE_BLOCK: case FIR_BLOCK: *n = block(kind, &refusal, &in_place); break;
     case CASCADE_RESET: case FIR_RESET: *n = reset(kind, &refusal); break;
     case J211: *n = pulse(words, &refusal, &left); break;
+    case RIVAL: *n = channel(words, &refusal, &left); break;
     case TAPS:
         for (size_t i = 0; i < words; i++)
             floats[i] = number(asked[i]);
@@ -181,7 +202,7 @@ static const char *called(uint64_t kind, size_t words, size_t *n) {
     int kept = !refusal || memcmp(&before, &now, sizeof now) == 0;
     if (kind < CASCADE_STEP || kind == FIR || kind == TAPS)
         *n = designed(kind, refusal);
-    return !kept ? "refused, and the state is changed" : !in_place ? "something else in place" : !left ? "a place that a pulse leaves is changed" : 0;
+    return !kept ? "refused, and the state is changed" : !in_place ? "something else in place" : !left ? "a place that the call leaves is changed" : 0;
 }
 
 static int read_words(FILE *list, uint64_t *words, size_t count) {
@@ -191,15 +212,19 @@ static int read_words(FILE *list, uint64_t *words, size_t count) {
     return 1;
 }
 
+/* Whether a channel's answer has as many words as its output asks for. */
+static int is_channel(const uint64_t *head) { return head[1] >= 2 && head[2] >= 2 && asked[1] == head[2] - 2; }
+
 /* Reads a request and replays it: 1 where it agrees, 0 where it is passed over, -1 where it differs or cannot be read. */
 static int request(FILE *list, size_t line) {
     uint64_t head[3];
     size_t n = 0;
-    if (!read_words(list, head, 3) || head[1] > MOST || head[2] > MOST || !read_words(list, asked, head[1]) || !read_words(list, expected, head[2])) {
+    if (!read_words(list, head, 3) || head[1] > MOST || head[2] > MOST || !read_words(list, asked, head[1]) || !read_words(list, expected, head[2])
+        || (head[0] == RIVAL && !is_channel(head))) {
         printf("request %zu of the list cannot be read\n", line);
         return -1;
     }
-    if (head[0] > J211)
+    if (head[0] > RIVAL)
         return 0;
     const char *wrong = called(head[0], head[1], &n);
     if (n != head[2] || memcmp(expected, given, n * sizeof *given))

@@ -28,6 +28,11 @@ fn numbers(words: &[u64]) -> Vec<f64> {
     words.iter().map(|w| f64::from_bits(*w)).collect()
 }
 
+/// An output before a call.
+fn places(length: u64) -> Vec<f64> {
+    (0..length as usize).map(|i| (FIRST_OUTPUT + i) as f64).collect()
+}
+
 /// The call, with the input and the output that it brings put into the slices.
 fn prepared(request: &Request, slices: &mut Slices) -> Call {
     let (function, asked) = (request.function, request.asked);
@@ -36,7 +41,7 @@ fn prepared(request: &Request, slices: &mut Slices) -> Call {
         call.x = f64::from_bits(asked[0]);
     } else if function.is_block() {
         slices.input = numbers(&asked[2..]);
-        slices.output = (0..asked[1] as usize).map(|i| (FIRST_OUTPUT + i) as f64).collect();
+        slices.output = places(asked[1]);
     } else if function == Function::FirCoeffs {
         slices.input = numbers(asked);
     } else if function == Function::FirDesign {
@@ -46,6 +51,11 @@ fn prepared(request: &Request, slices: &mut Slices) -> Call {
     } else if function == Function::J211 {
         (call.size, call.floats) = (asked[0] as usize, numbers(&asked[1..2]));
         slices.buffer = numbers(&asked[2..]);
+    } else if function == Function::ReadChannel {
+        call.size = asked[0] as usize;
+        slices.output = places(asked[1]);
+        slices.block = asked[2..].iter().map(|w| *w as u8).collect();
+        slices.count = vec![99];
     }
     call
 }
@@ -82,6 +92,9 @@ fn answered(function: Function, refusal: u8, slices: &mut Slices) -> Vec<u64> {
         if refusal == 0 { vec![clouded, word(&slices.answer[0])] } else { vec![2, refusal as u64] }
     } else if function == Function::J211 {
         [refusal as u64].into_iter().chain(slices.buffer.iter().map(word)).collect()
+    } else if function == Function::ReadChannel {
+        let count = if refusal == 0 { slices.count[0] as u64 } else { 0 };
+        [refusal as u64, count].into_iter().chain(slices.output.iter().map(word)).collect()
     } else {
         vec![refusal as u64]
     }
@@ -122,6 +135,9 @@ fn replay(request: &Request, slices: &mut Slices) -> Result<(), String> {
             return Err(format!("refused by {refusal}, and a slice is changed: {place}"));
         }
     }
+    if slices.block != before.block {
+        return Err("the block is changed".to_string());
+    }
     if call.function.is_block() {
         in_place(&call, &before, refusal, slices)?;
     }
@@ -140,15 +156,15 @@ fn next(words: &[u64]) -> Option<(u64, &[u64], &[u64], &[u64])> {
     Some((head[0], asked, expected, rest))
 }
 
-/// Replays a list; how many requests agree. The list's kinds are the functions up to `J211`, and then the elementary functions,
-/// which are passed over.
+/// Replays a list; how many requests agree. The list's kinds are the functions up to `ReadChannel`, and then the elementary
+/// functions, which are passed over.
 fn replay_all(text: &str) -> Result<usize, String> {
     let words: Vec<u64> = text.split_whitespace().map(|w| u64::from_str_radix(w, 16)).collect::<Result<_, _>>().map_err(|e| e.to_string())?;
     let (count, mut rest) = words.split_first().ok_or("the list is empty")?;
     let (mut slices, mut agree) = (Slices::blank(), 0);
     for line in 1..=*count {
         let (kind, asked, expected, behind) = next(rest).ok_or(format!("request {line} of the list cannot be read"))?;
-        if let Some(function) = FUNCTIONS[..=Function::J211 as usize].get(kind as usize) {
+        if let Some(function) = FUNCTIONS[..=Function::ReadChannel as usize].get(kind as usize) {
             let request = Request { function: *function, asked, expected };
             replay(&request, &mut slices).map_err(|wrong| format!("request {line}, {function:?}: {wrong}"))?;
             agree += 1;

@@ -16,13 +16,14 @@ pub enum Function {
     FirBlock,
     FirReset,
     J211,
+    ReadChannel,
     CascadeInPlace,
     FirInPlace,
 }
 use Function::*;
-pub const FUNCTIONS: [Function; 16] = [
+pub const FUNCTIONS: [Function; 17] = [
     LowPass, HighPass, BandPass, Chebyshev1, Chebyshev2, CascadeStep, CascadeBlock, CascadeReset, FirDesign, FirCoeffs, FirStep, FirBlock, FirReset,
-    J211, CascadeInPlace, FirInPlace,
+    J211, ReadChannel, CascadeInPlace, FirInPlace,
 ];
 
 impl Function {
@@ -32,7 +33,7 @@ impl Function {
     pub fn is_design(self) -> bool {
         self.is_cascade_design() || matches!(self, FirDesign | FirCoeffs)
     }
-    /// Whether the call is lent a cascade; else a tap record, but for a whole pulse, which is lent neither.
+    /// Whether the call is lent a cascade; else a tap record, but for a whole pulse or a channel, which is lent neither.
     pub fn is_cascade(self) -> bool {
         self.is_cascade_design() || matches!(self, CascadeStep | CascadeBlock | CascadeReset | CascadeInPlace)
     }
@@ -48,8 +49,8 @@ impl Function {
     }
 }
 
-/// The arguments that are not slices: an order, a number of taps or a channel class, a window code, a design's floats or the
-/// rate of a pulse, a step's sample.
+/// The arguments that are not slices: an order, a number of taps, a channel class or a channel, a window code, a design's floats
+/// or the rate of a pulse, a step's sample.
 #[derive(Clone, Debug)]
 pub struct Call {
     pub function: Function,
@@ -72,14 +73,17 @@ pub struct Slices {
     pub buffer: Vec<f64>,
     pub answer: Vec<f64>,
     pub clouded: Vec<usize>,
+    pub block: Vec<u8>,
+    pub count: Vec<usize>,
 }
 
 impl Slices {
     pub fn blank() -> Slices {
         let zeros = |n| vec![0.0; n];
         let (counts, fir_counts) = (vec![0; 3], vec![0; 3]);
-        let (input, output, buffer) = (vec![], vec![], vec![]);
-        Slices { numbers: zeros(32), counts, taps: zeros(64), samples: zeros(64), fir_counts, input, output, buffer, answer: zeros(1), clouded: vec![0] }
+        let (input, output, buffer, block) = (vec![], vec![], vec![], vec![]);
+        let (answer, clouded, count) = (zeros(1), vec![0], vec![0]);
+        Slices { numbers: zeros(32), counts, taps: zeros(64), samples: zeros(64), fir_counts, input, output, buffer, answer, clouded, block, count }
     }
 
     fn floats(&self) -> [(&'static str, &[f64]); 7] {
@@ -94,8 +98,17 @@ impl Slices {
         ]
     }
 
-    fn wholes(&self) -> [(&'static str, &[usize]); 3] {
-        [("counts", &self.counts), ("counts of the taps", &self.fir_counts), ("clouded", &self.clouded)]
+    fn wholes(&self) -> [(&'static str, &[usize]); 4] {
+        [("counts", &self.counts), ("counts of the taps", &self.fir_counts), ("clouded", &self.clouded), ("count", &self.count)]
+    }
+
+    /// How many places of the output an accepted call answers.
+    fn answered(&self, function: Function) -> usize {
+        match function {
+            CascadeBlock | FirBlock => self.input.len(),
+            ReadChannel => self.count[0],
+            _ => 0,
+        }
     }
 }
 
@@ -116,7 +129,10 @@ pub fn difference(call: &Call, refused: bool, expected: &Slices, given: &Slices)
             return Some(format!("{name}: expected {e:?}, given {g:?}"));
         }
     }
-    let answered = if call.function.is_block() { expected.input.len() } else { 0 };
+    if let Some(place) = expected.block.iter().zip(&given.block).position(|(e, g)| e != g) {
+        return Some(format!("block[{place}]: expected {}, given {}", expected.block[place], given.block[place]));
+    }
+    let answered = if refused { 0 } else { expected.answered(call.function) };
     for ((name, e), (_, g)) in expected.floats().into_iter().zip(given.floats()) {
         for (place, (a, b)) in e.iter().zip(g).enumerate() {
             let good = if exact(call, refused, name, place, answered) { a.to_bits() == b.to_bits() } else { same(*a, *b) };

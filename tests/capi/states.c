@@ -1,8 +1,9 @@
-/* Tries what the stored answers of the oracle cannot have: slices of wrong lengths, damaged states, two reasons for a refusal
- * at once, every place of a state after a call, blocks in place beside blocks over two arrays, and whole pulses of any length
- * beside their recurrence. The expected numbers are written here from include/pulse.h. After each refusal all slices, and the
- * guard places behind them, must be bit for bit as before, also where they hold NaNs of any bits.
- * Usage: states. Status 0: all as expected; 1: a difference, which is shown. */
+/* Tries what the stored answers of the oracle cannot have: slices of wrong lengths, damaged states, several reasons for a refusal
+ * at once, every place of a state after a call, blocks in place beside blocks over two arrays, whole pulses of any length beside
+ * their recurrence, and channels of the rival recorder's blocks, of up to 65,535 samples, beside a plain reading. The expected
+ * numbers are written here from include/pulse.h. After each refusal all slices, and the guard places behind them, must be bit
+ * for bit as before, also where they hold NaNs of any bits.
+ * Usage: states. Status 0: all as expected; 1: a difference, which is shown, and the parts behind it are not tried. */
 #include "pulse.h"
 #include <float.h>
 #include <math.h>
@@ -656,17 +657,370 @@ static void pulses(void) {
     pulse_numbers();
 }
 
+/* Channels of the rival recorder's blocks. */
+
+/* A call: the block's bytes, the lengths of the slices, and the channel asked for. */
+struct reading {
+    const uint8_t *block;
+    size_t block_len, channel, output_len, count_len;
+};
+
+static size_t word_at(const uint8_t *bytes) { return bytes[0] + 256 * (size_t)bytes[1]; }
+
+static size_t samples_of(struct reading r) { return word_at(r.block + 2); }
+
+/* What the call must return. */
+static uint8_t refusal_of(struct reading r) {
+    if (r.count_len != 1)
+        return PULSE_BAD_CALL;
+    if (r.block_len == 0 || r.block[0] < 4 || r.block[0] > r.block_len || r.block[1] == 0 || r.block[1] > 8)
+        return PULSE_INVALID_HEADER;
+    if (r.block[0] + 2 * r.block[1] * samples_of(r) > r.block_len)
+        return PULSE_TRUNCATED_BLOCK;
+    if (r.channel >= r.block[1])
+        return PULSE_CHANNEL_NOT_PRESENT;
+    return r.output_len < samples_of(r) ? PULSE_SHORT_OUTPUT : 0;
+}
+
+/* The sample of an accepted call at an instant. */
+static double sample_of(struct reading r, size_t instant) {
+    long code = (long)word_at(r.block + r.block[0] + 2 * (r.block[1] * instant + r.channel));
+    if (code == 0x8000)
+        return NAN;
+    return (double)(code < 0x8000 ? code : code - 0x10000);
+}
+
+enum {
+    MOST_SAMPLES = 65535,
+    MOST_BYTES = 255 + 2 * PULSE_MAX_CHANNELS * MOST_SAMPLES,
+    MOST_PLACES = GUARDS + MOST_SAMPLES + 1 + GUARDS,
+    MOST_COUNTS = GUARDS + 3 + GUARDS
+};
+
+/* What an output and its guard places hold before a call: numbers, or NaNs. */
+static double fills[2][MOST_PLACES];
+
+static void make_fills(void) {
+    for (size_t i = 0; i < MOST_PLACES; i++)
+        fills[0][i] = (double)(1000 + i);
+    fill_with_nans(fills[1], MOST_PLACES);
+}
+
+/* Whether the first n places hold the samples, and all others, guard places included, their very bits. */
+static int is_read(struct reading r, size_t n, const double *places, const double *fill) {
+    const double *output = places + GUARDS;
+    for (size_t i = 0; i < n; i++) {
+        double x = sample_of(r, i);
+        if (!same(output + i, &x, 1))
+            return 0;
+    }
+    return memcmp(places, fill, GUARDS * sizeof *places) == 0
+        && memcmp(output + n, fill + GUARDS + n, (r.output_len - n + GUARDS) * sizeof *places) == 0;
+}
+
+/* Whether the block and the guard bytes around it are as they were. */
+static int is_block_kept(struct reading r, const uint8_t *block) {
+    static const uint8_t guards[GUARDS];
+    return memcmp(block - GUARDS, guards, GUARDS) == 0 && memcmp(block, r.block, r.block_len) == 0 && memcmp(block + r.block_len, guards, GUARDS) == 0;
+}
+
+/* The call over slices between guard places, the block at any address: it must return the number, and leave what it must. */
+static void try_channel(struct reading r, uint8_t number, const double *fill, const char *what) {
+    static uint8_t bytes[GUARDS + MOST_BYTES + 1 + 2 * GUARDS];
+    static double places[MOST_PLACES];
+    size_t counts[MOST_COUNTS], expected[MOST_COUNTS], n = number ? 0 : samples_of(r);
+    uint8_t *block = bytes + GUARDS + tried % GUARDS;
+    memset(block - GUARDS, 0, GUARDS);
+    memcpy(block, r.block, r.block_len);
+    memset(block + r.block_len, 0, GUARDS);
+    memcpy(places, fill, (GUARDS + r.output_len + GUARDS) * sizeof *places);
+    for (size_t i = 0; i < MOST_COUNTS; i++)
+        counts[i] = expected[i] = 99 + i;
+    if (!number)
+        expected[GUARDS] = n;
+    uint8_t given = pulse_read_channel(block, r.block_len, r.channel, places + GUARDS, r.output_len, counts + GUARDS, r.count_len);
+    tried++;
+    if (given != number)
+        fail(what, "read_channel", number, given);
+    else if (!is_read(r, n, places, fill) || memcmp(counts, expected, sizeof counts) || !is_block_kept(r, block))
+        fail(what, number ? "something is changed by a refused read_channel" : "a place, the count or the block after read_channel", number, given);
+}
+
+static void expect_channel(struct reading r, uint8_t number, const char *what) {
+    try_channel(r, number, fills[0], what);
+    try_channel(r, number, fills[1], what);
+}
+
+/* Bytes by a fixed sequence, each eleventh code a dropout. */
+static void fill_with_codes(uint8_t *bytes, size_t n) {
+    uint32_t x = 1;
+    for (size_t i = 0; i < n; i++) {
+        x = x * 1664525 + 1013904223;
+        bytes[i] = i / 2 % 11 == 3 ? (i % 2 ? 0x80 : 0) : x >> 24;
+    }
+}
+
+/* The first four bytes of a block. */
+static void put_header(uint8_t *block, size_t header, size_t channels, size_t samples) {
+    const uint8_t bytes[4] = {(uint8_t)header, (uint8_t)channels, (uint8_t)samples, (uint8_t)(samples >> 8)};
+    memcpy(block, bytes, sizeof bytes);
+}
+
+/* A block and its channels, written by hand. */
+static void channels_by_hand(void) {
+    uint8_t block[] = {7, 3, 2, 0, 0xFF, 0x80, 0x01,       /* a header of 7 bytes: 3 channels of 2 samples */
+                       0x01, 0x00, 0xFF, 0xFF, 0x00, 0x80,  /* 1, -1, a dropout */
+                       0xFF, 0x7F, 0x01, 0x80, 0x00, 0x01}; /* 32767, -32767, 256 */
+    const double samples[3][2] = {{1, 32767}, {-1, -32767}, {NAN, 256}};
+    for (size_t channel = 0; channel < 3; channel++) {
+        double output[3] = {1000, 1001, 1002};
+        size_t count = 99;
+        uint8_t number = pulse_read_channel(block, sizeof block, channel, output, 3, &count, 1);
+        check(number == 0 && count == 2 && same(output, samples[channel], 2) && output[2] == 1002, "a channel by hand");
+        expect_channel((struct reading){block, sizeof block, channel, 3, 1}, 0, "a channel by hand");
+    }
+}
+
+/* Short blocks about each limit, and what must be returned. */
+static void limits_by_hand(void) {
+    static const struct {
+        uint8_t block[8];
+        size_t block_len, channel, output_len;
+        uint8_t number;
+    } calls[] = {
+        {{4, 1}, 0, 0, 1, 22}, {{4, 1}, 1, 0, 1, 22}, {{0, 1}, 1, 0, 1, 22}, {{1, 1}, 1, 0, 1, 22}, {{3, 1}, 3, 0, 1, 22}, {{4, 1}, 3, 0, 1, 22},
+        {{3, 1}, 4, 0, 0, 22}, {{4, 1}, 4, 0, 0, 0}, {{5, 1}, 4, 0, 0, 22}, {{5, 1}, 5, 0, 1, 0}, {{6, 1}, 5, 0, 0, 22}, {{255, 1}, 8, 0, 0, 22},
+        {{4, 0}, 8, 0, 2, 22}, {{4, 8}, 8, 7, 2, 0}, {{4, 9}, 8, 0, 2, 22}, {{4, 255}, 8, 0, 2, 22},
+        {{4, 1, 1, 0, 9, 0}, 5, 0, 1, 23}, {{4, 1, 1, 0, 9, 0}, 6, 0, 1, 0}, {{4, 1, 1, 0, 9, 0}, 7, 0, 1, 0}, {{5, 1, 1, 0, 9, 9, 0}, 6, 0, 1, 23},
+        {{5, 1, 1, 0, 9, 9, 0}, 7, 0, 1, 0}, {{4, 2, 1, 0, 9, 0, 8, 0}, 7, 0, 1, 23}, {{4, 2, 1, 0, 9, 0, 8, 0}, 8, 1, 1, 0},
+        {{4, 2, 1, 0, 9, 0, 8, 0}, 8, 2, 1, 24}, {{4, 2, 1, 0, 9, 0, 8, 0}, 8, SIZE_MAX, 1, 24}, {{4, 2, 1, 0, 9, 0, 8, 0}, 8, 1, 0, 5},
+        {{4, 1, 2, 0, 9, 0, 8, 0}, 8, 0, 1, 5}, {{4, 1, 2, 0, 9, 0, 8, 0}, 8, 0, 2, 0}, {{4, 1, 2, 0, 9, 0, 8, 0}, 8, 0, 3, 0},
+        {{4, 1, 0, 1, 9, 0, 8, 0}, 8, 0, 256, 23}, {{4, 8, 0, 16, 9, 0, 8, 0}, 8, 0, 4096, 23}, {{4, 1, 0, 128}, 4, 0, 32768, 23},
+    };
+    for (size_t i = 0; i < sizeof calls / sizeof *calls; i++)
+        expect_channel((struct reading){calls[i].block, calls[i].block_len, calls[i].channel, calls[i].output_len, 1}, calls[i].number, "a limit by hand");
+}
+
+/* Something wrong with a header, which 22 is about: its length, the channel count, or no block. */
+enum { KINDS = 5 };
+static void spoil_header(uint8_t *block, size_t *block_len, int kind) {
+    switch (kind) {
+    case 0: block[0] = 3; break;
+    case 1: block[0] = (uint8_t)(*block_len + 1); break;
+    case 2: block[1] = 0; break;
+    case 3: block[1] = 9; break;
+    default: *block_len = 0;
+    }
+}
+
+/* Each set of reasons, of which the first in the header's order must be returned. Nine channels, too, have room in 60 bytes. */
+static void reasons_at_once(void) {
+    static const uint8_t numbers[5] = {PULSE_BAD_CALL, PULSE_INVALID_HEADER, PULSE_TRUNCATED_BLOCK, PULSE_CHANNEL_NOT_PRESENT, PULSE_SHORT_OUTPUT};
+    for (unsigned set = 0; set < 1 << 5; set++)
+        for (int kind = 0; kind < (set & 2 ? KINDS : 1); kind++) {
+            uint8_t block[60], number = 0;
+            struct reading r = {block, set & 4 ? 7 : 60, set & 8 ? 9 : 1, set & 16 ? 2 : 3, 1};
+            for (int i = 4; i >= 0; i--)
+                number = set >> i & 1 ? numbers[i] : number;
+            fill_with_codes(block, sizeof block);
+            put_header(block, 6, 2, 3);
+            if (set & 2)
+                spoil_header(block, &r.block_len, kind);
+            const size_t lengths[] = {1, 0, 2, 3};
+            for (int i = set & 1; i < (set & 1 ? 4 : 1); i++) {
+                r.count_len = lengths[i];
+                expect_channel(r, number, "several reasons at once");
+            }
+        }
+}
+
+/* Header bytes from 4 on and bytes behind the samples: whatever they are, the samples are the same. */
+static void bytes_that_do_not_matter(void) {
+    static const uint8_t fill[] = {0x00, 0x80, 0xFF};
+    for (size_t header = 4; header <= 255; header++)
+        for (int i = 0; i < 3; i++) {
+            uint8_t block[255 + 12 + 4];
+            memset(block, fill[i], sizeof block);
+            put_header(block, header, 2, 3);
+            fill_with_codes(block + header, 12);
+            expect_channel((struct reading){block, header + 12 + header % 5, header % 2, 3 + header % 3, 1}, 0, "bytes that do not matter");
+        }
+}
+
+/* Channels at and about the count, and numbers that end in the bits of one. */
+static void channels_by_number(void) {
+    const size_t wide[] = {0, 256, 65536, (size_t)1 << 32, (size_t)1 << 63};
+    for (size_t channels = 1; channels <= 8; channels++)
+        for (int i = 0; i < 5; i++)
+            for (size_t low = 0; low <= 16; low++) {
+                uint8_t block[4 + 2 * 8 * 3];
+                fill_with_codes(block, sizeof block);
+                put_header(block, 4, channels, 3);
+                uint8_t number = !wide[i] && low < channels ? 0 : PULSE_CHANNEL_NOT_PRESENT;
+                expect_channel((struct reading){block, sizeof block, wide[i] + low, 3, 1}, number, "a channel by its number");
+            }
+}
+
+/* A count of samples with both its bytes. */
+static void three_hundred_samples(void) {
+    uint8_t block[9 + 2 * 3 * 300];
+    fill_with_codes(block, sizeof block);
+    put_header(block, 9, 3, 300);
+    for (size_t channel = 0; channel < 3; channel++)
+        expect_channel((struct reading){block, sizeof block, channel, 302, 1}, 0, "300 samples");
+}
+
+static void channels(void) {
+    make_fills();
+    channels_by_hand();
+    limits_by_hand();
+    reasons_at_once();
+    bytes_that_do_not_matter();
+    channels_by_number();
+    three_hundred_samples();
+}
+
+/* A block with channels and output lengths about its own. */
+static void read_about(const uint8_t *block, size_t block_len, size_t channels, size_t samples) {
+    const size_t asked[] = {0, channels - 1, channels, channels + 1, 256, SIZE_MAX};
+    const size_t lengths[] = {0, samples ? samples - 1 : 2, samples, samples + 1};
+    for (int i = 0; i < 6; i++)
+        for (int j = 0; j < 4; j++) {
+            struct reading r = {block, block_len, asked[i], lengths[j], 1};
+            expect_channel(r, refusal_of(r), "a block about its limits");
+        }
+}
+
+/* Lengths of the header, channel counts and samples about their limits; blocks about the end of their header and of their samples. */
+static void blocks_about_limits(void) {
+    static const size_t headers[] = {0, 1, 3, 4, 5, 6, 254, 255}, channels[] = {0, 1, 2, 7, 8, 9, 255}, samples[] = {0, 1, 2, 3};
+    static uint8_t block[255 + 2 * 255 * 3 + 2];
+    for (int i = 0; i < 8 * 7 * 4; i++) {
+        size_t header = headers[i % 8], count = channels[i / 8 % 7], each = samples[i / 56], end = header + 2 * count * each;
+        const size_t lengths[] = {header ? header - 1 : 2, header, header + 1, end ? end - 1 : 3, end, end + 1, end + 2};
+        fill_with_codes(block + header, sizeof block - header);
+        put_header(block, header, count, each);
+        for (int j = 0; j < 7; j++)
+            read_about(block, lengths[j], count, each);
+    }
+}
+
+/* Every block of 0 to 5 of these bytes. An accepted one has no samples. */
+static void every_short_block(void) {
+    static const uint8_t letters[8] = {0x00, 0x01, 0x03, 0x04, 0x05, 0x08, 0x09, 0xFF};
+    static const size_t asked[] = {0, 1, 8, SIZE_MAX};
+    for (size_t length = 0; length <= 5; length++)
+        for (size_t word = 0; word < (size_t)1 << 3 * length; word++) {
+            uint8_t block[5];
+            for (size_t i = 0; i < length; i++)
+                block[i] = letters[word >> 3 * i & 7];
+            for (int i = 0; i < 8; i++) {
+                struct reading r = {block, length, asked[i % 4], i < 4 ? 0 : 2, 1};
+                expect_channel(r, refusal_of(r), "a short block");
+            }
+        }
+}
+
+/* Every block of 0 to 4 of these bytes behind headers of 4 to 6 bytes, for one and two channels of 0 to 2 samples. */
+static void every_short_tail(void) {
+    static const uint8_t letters[4] = {0x00, 0x7F, 0x80, 0xFF};
+    for (size_t length = 0; length <= 4; length++)
+        for (size_t word = 0; word < (size_t)1 << 2 * length; word++)
+            for (size_t i = 0; i < 18; i++) {
+                uint8_t block[10] = {0};
+                size_t header = 4 + i % 3, channels = 1 + i / 3 % 2;
+                put_header(block, header, channels, i / 6);
+                for (size_t j = 0; j < length; j++)
+                    block[header + j] = letters[word >> 2 * j & 3];
+                for (size_t j = 0; j < 6; j++) {
+                    struct reading r = {block, header + length, j % 2, j / 2, 1};
+                    expect_channel(r, refusal_of(r), "a short block with samples");
+                }
+            }
+}
+
+/* Every first and second byte, with no sample and with one. */
+static void every_header(void) {
+    uint8_t block[300];
+    fill_with_codes(block, sizeof block);
+    for (size_t header = 0; header <= 255; header++)
+        for (size_t channels = 0; channels <= 255; channels++) {
+            put_header(block, header, channels, (header + channels) % 2);
+            struct reading r = {block, sizeof block, header % 9, 1, 1};
+            try_channel(r, refusal_of(r), fills[header % 2], "every header");
+        }
+}
+
+/* Every count of samples and channels in a block of 64 bytes: all but the least counts run past its end. */
+static void every_count(void) {
+    uint8_t block[64];
+    fill_with_codes(block, sizeof block);
+    for (size_t channels = 1; channels <= 8; channels++)
+        for (size_t samples = 0; samples <= MOST_SAMPLES; samples++) {
+            put_header(block, 4, channels, samples);
+            struct reading r = {block, sizeof block, channels - 1, 30, 1};
+            try_channel(r, refusal_of(r), fills[samples % 2], "every count");
+        }
+}
+
+/* Every code, as the only sample of a block and as one of 32,768 of two channels. */
+static void every_code(void) {
+    static uint8_t block[5 + 4 * 32768];
+    static double output[32768];
+    size_t count, right = 0;
+    put_header(block, 5, 2, 32768);
+    for (size_t i = 0; i < 65536; i++) {
+        uint8_t one[6] = {4, 1, 1, 0, (uint8_t)i, (uint8_t)(i >> 8)};
+        expect_channel((struct reading){one, sizeof one, 0, 1, 1}, 0, "a code by itself");
+        memcpy(block + 5 + 2 * i, one + 4, 2);
+    }
+    for (size_t channel = 0; channel < 2; channel++) {
+        right += pulse_read_channel(block, sizeof block, channel, output, 32768, &count, 1) == 0 && count == 32768;
+        for (int i = 0; i < 32768; i++) {
+            int code = 2 * i + (int)channel;
+            int16_t number = (int16_t)(code < 32768 ? code : code - 65536);
+            double x = number;
+            right += number == -32768 ? isnan(output[i]) != 0 : memcmp(output + i, &x, sizeof x) == 0;
+        }
+    }
+    check(right == 65536 + 2, "every code");
+}
+
+/* Every channel of a block with as many samples as there can be or one less, one and eight channels; the block and the output
+ * exact, one short and one more. */
+static void long_blocks(void) {
+    static uint8_t block[MOST_BYTES + 1];
+    for (int i = 0; i < 8; i++) {
+        size_t header = i & 1 ? 255 : 4, channels = i & 2 ? 8 : 1, samples = i & 4 ? MOST_SAMPLES : MOST_SAMPLES - 1;
+        fill_with_codes(block + header, sizeof block - header);
+        put_header(block, header, channels, samples);
+        for (size_t channel = 0; channel < channels; channel++)
+            expect_channel((struct reading){block, header + 2 * channels * samples, channel, samples, 1}, 0, "a long block");
+        for (size_t j = 0; j < 9; j++) {
+            struct reading r = {block, header + 2 * channels * samples - 1 + j % 3, channels - 1, samples - 1 + j / 3, 1};
+            expect_channel(r, refusal_of(r), "a long block about its limits");
+        }
+    }
+}
+
+/* The many and the long ones. */
+static void more_channels(void) {
+    blocks_about_limits();
+    every_short_block();
+    every_short_tail();
+    every_header();
+    every_count();
+    every_code();
+    long_blocks();
+}
+
+/* The short parts come first: a run stops after a part with a difference. */
+static void (*const parts[])(void) = {wrong_lengths, damaged_states, refused_designs, designed_places, tap_places, cascade_places, fir_places,
+                                      overflow, channels, blocks_in_place, pulses, more_channels};
+
 int main(void) {
-    wrong_lengths();
-    damaged_states();
-    refused_designs();
-    designed_places();
-    tap_places();
-    cascade_places();
-    fir_places();
-    overflow();
-    blocks_in_place();
-    pulses();
+    for (size_t i = 0; i < sizeof parts / sizeof *parts && !failed; i++)
+        parts[i]();
     printf("states: %u tried, %u otherwise than expected\n", tried, failed);
     return failed ? 1 : 0;
 }

@@ -1,6 +1,6 @@
 /* Deliberately wrong archives, to see that the tests can fail: stands before the archive's functions (the linker's --wrap)
  * and spoils one thing, by the number in the environment variable WRONG; without it nothing is spoiled. tests/capi/run
- * links the tests with this too, and each number below WRONGS must make them fail. */
+ * links the tests with this too, and each number from 1 to WRONGS - 1 must make them fail. */
 #include "pulse.h"
 #include <math.h>
 #include <stdlib.h>
@@ -81,17 +81,63 @@ enum wrong {
     J211_NAN_RATE,          /* a rate that is a NaN is refused by 2 */
     J211_INFINITE_RATE,     /* an infinite rate is refused by 3 */
     J211_REFUSED_WRITES,    /* a refused call makes the first place 0 */
+    /* Channels of the rival recorder's blocks. */
+    CHANNEL_HIGH_FIRST,     /* a code has its high byte first */
+    CHANNEL_SAMPLES_HIGH_FIRST, /* the samples per channel have their high byte first */
+    CHANNEL_SAMPLES_BYTE,   /* the samples per channel are their low byte alone */
+    CHANNEL_UNSIGNED,       /* codes are unsigned */
+    CHANNEL_APART,          /* the channels stand one after the other */
+    CHANNEL_NEXT,           /* the channel is the next one */
+    CHANNEL_DROPOUT_NUMBER, /* a dropout is the number -32768 */
+    CHANNEL_DROPOUT_ZERO,   /* a dropout is 0 */
+    CHANNEL_DROPOUT_LEFT,   /* a dropout leaves its place as it was */
+    CHANNEL_DROPOUT_TWO,    /* -32767 is a dropout too */
+    CHANNEL_NOT_SKIPPED,    /* samples start at byte 4 */
+    CHANNEL_LAST_LEFT,      /* the last sample is left out */
+    CHANNEL_FIRST_PART,     /* samples from 256 on are left out */
+    CHANNEL_WRITES_BEHIND,  /* writes one place behind the samples */
+    CHANNEL_WRITES_BLOCK,   /* an accepted call makes the block's last byte another */
+    CHANNEL_COUNT_MORE,     /* the count is one too many */
+    CHANNEL_COUNT_LEFT,     /* no samples leave the count */
+    CHANNEL_REFUSED_COUNTS, /* a refused call makes the count 0 */
+    CHANNEL_REFUSED_WRITES, /* a refused call makes the first place 0 */
+    CHANNEL_SHORT_WRITES,   /* a short output gets what fits */
+    CHANNEL_BAD_CALL_PASSES, /* 13 is not tested */
+    CHANNEL_BAD_CALL_LATE,  /* 22 before 13; these four in the order of the reasons */
+    CHANNEL_TRUNCATED_FIRST, /* 23 before 22 */
+    CHANNEL_ABSENT_FIRST,   /* 24 before 23 */
+    CHANNEL_SHORT_FIRST,    /* 5 before 24 */
+    CHANNEL_EMPTY_TRUNCATED, /* an empty block is refused by 23 */
+    CHANNEL_HEADER_3,       /* a header of 3 bytes is accepted */
+    CHANNEL_HEADER_4,       /* a header of 4 bytes is refused */
+    CHANNEL_HEADER_ALL,     /* a header as long as the block is refused */
+    CHANNEL_HEADER_PAST,    /* a header one byte longer than the block is accepted */
+    CHANNEL_NONE,           /* no channels are accepted */
+    CHANNEL_EIGHT,          /* eight channels are refused */
+    CHANNEL_NINE,           /* nine channels are accepted */
+    CHANNEL_BYTE_MISSING,   /* samples one byte past the end are accepted */
+    CHANNEL_EXACT_BLOCK,    /* samples up to the end are refused */
+    CHANNEL_BYTES_BEHIND,   /* bytes past the samples are refused */
+    CHANNEL_NO_SAMPLES,     /* no samples are refused */
+    CHANNEL_END_TRUNCATED,  /* the end of the samples is taken modulo 2^16 */
+    CHANNEL_TRUNCATED,      /* the channel is taken modulo 2^32 */
+    CHANNEL_AT_COUNT,       /* the channel at the channel count is accepted */
+    CHANNEL_LAST_ABSENT,    /* the last channel is refused */
+    CHANNEL_EXACT_OUTPUT,   /* an output with as many places as samples is refused */
+    CHANNEL_PLACE_MISSING,  /* an output with a place less is accepted */
     WRONGS
 };
 
-static int is(enum wrong w) {
-    static int asked = -1;
-    if (asked < 0)
-        asked = getenv("WRONG") ? atoi(getenv("WRONG")) : 0;
-    if (asked >= WRONGS)
+static int asked(void) {
+    static int number = -1;
+    if (number < 0)
+        number = getenv("WRONG") ? atoi(getenv("WRONG")) : 0;
+    if (number >= WRONGS)
         exit(3); /* there is no such number */
-    return asked == (int)w;
+    return number;
 }
+
+static int is(enum wrong w) { return asked() == (int)w; }
 
 #define REAL(name, ...) uint8_t __real_##name(__VA_ARGS__); uint8_t __wrap_##name(__VA_ARGS__); uint8_t __wrap_##name(__VA_ARGS__)
 #define CASCADE double *n, size_t nl, size_t *c, size_t cl
@@ -477,4 +523,121 @@ REAL(pulse_j211, PULSE) {
         return 2;
     wrong_passes(class, rate, b, bl);
     return 0;
+}
+
+/* Channels of blocks: a reading of its own, with one error, and with none where nothing is spoiled. A byte past the end of the
+ * block is 0 here. */
+#define CHANNEL const uint8_t *block, size_t block_len, size_t channel, double *output, size_t output_len, size_t *count, size_t count_len
+struct header {
+    size_t length, channels, samples;
+};
+
+static size_t byte(const uint8_t *block, size_t block_len, size_t at) { return at < block_len ? block[at] : 0; }
+
+static struct header header(const uint8_t *block, size_t block_len) {
+    size_t low = byte(block, block_len, 2), high = byte(block, block_len, 3);
+    size_t samples = is(CHANNEL_SAMPLES_HIGH_FIRST) ? 256 * low + high : is(CHANNEL_SAMPLES_BYTE) ? low : low + 256 * high;
+    return (struct header){byte(block, block_len, 0), byte(block, block_len, 1), samples};
+}
+
+static int bad_header(struct header h, size_t block_len) {
+    if (block_len == 0)
+        return !is(CHANNEL_EMPTY_TRUNCATED);
+    size_t least = is(CHANNEL_HEADER_3) ? 3 : is(CHANNEL_HEADER_4) ? 5 : 4;
+    size_t most = is(CHANNEL_HEADER_PAST) ? block_len + 1 : is(CHANNEL_HEADER_ALL) ? block_len - 1 : block_len;
+    size_t channels = is(CHANNEL_NINE) ? 9 : is(CHANNEL_EIGHT) ? 7 : 8;
+    return h.length < least || h.length > most || (h.channels == 0 && !is(CHANNEL_NONE)) || h.channels > channels;
+}
+
+static int truncated(struct header h, size_t block_len) {
+    size_t end = h.length + 2 * h.channels * h.samples;
+    if (is(CHANNEL_END_TRUNCATED))
+        end &= 0xFFFF;
+    if (is(CHANNEL_BYTE_MISSING) && end)
+        end--;
+    if ((is(CHANNEL_BYTES_BEHIND) && end != block_len) || (is(CHANNEL_NO_SAMPLES) && !h.samples) || (is(CHANNEL_EMPTY_TRUNCATED) && !block_len))
+        return 1;
+    return is(CHANNEL_EXACT_BLOCK) ? end >= block_len : end > block_len;
+}
+
+static int absent(struct header h, size_t channel) {
+    size_t channels = is(CHANNEL_AT_COUNT) ? h.channels + 1 : is(CHANNEL_LAST_ABSENT) && h.channels ? h.channels - 1 : h.channels;
+    return channel >= channels;
+}
+
+static int is_short(struct header h, size_t output_len) {
+    size_t samples = is(CHANNEL_PLACE_MISSING) && h.samples ? h.samples - 1 : h.samples;
+    return is(CHANNEL_EXACT_OUTPUT) ? output_len <= samples : output_len < samples;
+}
+
+/* The number of the first reason found, in their order; where that is wrong, two neighbours are swapped. */
+static uint8_t refused_channel(struct header h, CHANNEL) {
+    static const uint8_t numbers[5] = {13, 22, 23, 24, 5};
+    const int found[5] = {count_len != 1 && !is(CHANNEL_BAD_CALL_PASSES), bad_header(h, block_len), truncated(h, block_len), absent(h, channel),
+                          is_short(h, output_len)};
+    int order[5] = {0, 1, 2, 3, 4};
+    (void)block, (void)output, (void)count;
+    for (int i = 0; i < 4; i++)
+        if (is(CHANNEL_BAD_CALL_LATE + i)) {
+            order[i] = i + 1;
+            order[i + 1] = i;
+        }
+    for (int i = 0; i < 5; i++)
+        if (found[order[i]])
+            return numbers[order[i]];
+    return 0;
+}
+
+static void read_sample(const uint8_t *bytes, size_t left, double *place) {
+    size_t first = byte(bytes, left, 0), second = byte(bytes, left, 1), code = is(CHANNEL_HIGH_FIRST) ? 256 * first + second : first + 256 * second;
+    double number = code >= 0x8000 && !is(CHANNEL_UNSIGNED) ? (double)code - 0x10000 : (double)code;
+    if (code == 0x8000 && is(CHANNEL_DROPOUT_LEFT))
+        return;
+    if (code == 0x8000 || (code == 0x8001 && is(CHANNEL_DROPOUT_TWO)))
+        number = is(CHANNEL_DROPOUT_NUMBER) ? -32768 : is(CHANNEL_DROPOUT_ZERO) ? 0 : NAN;
+    *place = number;
+}
+
+/* The samples that have a place. */
+static void read_samples(struct header h, const uint8_t *block, size_t block_len, size_t channel, double *output, size_t output_len) {
+    size_t n = h.samples < output_len ? h.samples : output_len;
+    if (n && is(CHANNEL_LAST_LEFT))
+        n--;
+    if (n > PART && is(CHANNEL_FIRST_PART))
+        n = PART;
+    for (size_t i = 0; i < n; i++) {
+        size_t code = is(CHANNEL_APART) ? h.samples * channel + i : h.channels * i + channel + (is(CHANNEL_NEXT) ? 1 : 0);
+        size_t at = (is(CHANNEL_NOT_SKIPPED) ? 4 : h.length) + 2 * code;
+        read_sample(block + (at < block_len ? at : block_len), at < block_len ? block_len - at : 0, output + i);
+    }
+}
+
+/* What an accepted call leaves. */
+static void accepted_channel(struct header h, CHANNEL) {
+    read_samples(h, block, block_len, channel, output, output_len);
+    if (output_len > h.samples && is(CHANNEL_WRITES_BEHIND))
+        output[h.samples] = 0;
+    if (is(CHANNEL_WRITES_BLOCK))
+        ((uint8_t *)block)[block_len - 1] ^= 1;
+    if (count_len && !(h.samples == 0 && is(CHANNEL_COUNT_LEFT)))
+        count[0] = h.samples + (is(CHANNEL_COUNT_MORE) ? 1 : 0);
+}
+
+uint8_t __real_pulse_read_channel(CHANNEL);
+REAL(pulse_read_channel, CHANNEL) {
+    if (asked() > NOTHING && asked() < CHANNEL_HIGH_FIRST)
+        return __real_pulse_read_channel(block, block_len, channel, output, output_len, count, count_len);
+    struct header h = header(block, block_len);
+    if (is(CHANNEL_TRUNCATED))
+        channel &= 0xFFFFFFFFu;
+    uint8_t number = refused_channel(h, block, block_len, channel, output, output_len, count, count_len);
+    if (!number)
+        accepted_channel(h, block, block_len, channel, output, output_len, count, count_len);
+    if (number && count_len && is(CHANNEL_REFUSED_COUNTS))
+        count[0] = 0;
+    if (number && output_len && is(CHANNEL_REFUSED_WRITES))
+        output[0] = 0;
+    if (number == 5 && is(CHANNEL_SHORT_WRITES))
+        read_samples(h, block, block_len, channel, output, output_len);
+    return number;
 }
