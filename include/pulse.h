@@ -1,7 +1,8 @@
 /* The pulse conditioning filters for C: the functions of libcapi.a (`rt staticlib capi` writes it to target/staticlib/).
  *
  * A filter's state is in the caller's memory, in the arrays described below; the library keeps nothing between two calls,
- * allocates nothing and calls no function of a math library. Calls on different states may run at the same time.
+ * allocates nothing and calls no function of a math library. Calls may run at the same time where none writes a slice that
+ * another uses.
  *
  * Slices. An array crosses as a pointer and then its length in items. The pointer points to at least that many items, also
  * where the length is not the one asked for. A null pointer is not allowed, even with length 0. The slices of one call do not
@@ -76,9 +77,9 @@ extern "C" {
 #define PULSE_BAD_TAPS 12           /* length 0 or above 64, held count above the length, or window code above 4 */
 #define PULSE_BAD_CALL 13           /* a slice of another length than asked for, a flag above 1, or a design's window code above 3 */
 #define PULSE_INVALID_CLASS 21      /* a channel class other than 60, 180, 600 and 1000 */
-#define PULSE_INVALID_HEADER 22     /* an empty block, a header length below 4 or past its end, or channels outside 1 to 8 */
-#define PULSE_TRUNCATED_BLOCK 23    /* samples that run past the end of their block */
-#define PULSE_CHANNEL_NOT_PRESENT 24 /* a channel number at or above the channel count of its block */
+#define PULSE_INVALID_HEADER 22     /* no header of the rival recorder's (pulse_read_channel) */
+#define PULSE_TRUNCATED_BLOCK 23    /* samples that run past the end of the rival recorder's block */
+#define PULSE_CHANNEL_NOT_PRESENT 24 /* a channel that the rival recorder's block does not have */
 
 /* Limits of the designs. */
 #define PULSE_MAX_ORDER 8           /* low pass, high pass, Chebyshev I and II */
@@ -292,10 +293,10 @@ uint8_t pulse_j211(size_t channel_class, double sample_rate, double *PULSE_RESTR
  * channel; header bytes from 4 on are skipped. Samples start after the header: signed 16-bit two's complement, channel 0, 1 and
  * so on, then the next instant. Every number has its low byte first. Bytes past the samples are ignored.
  *
- * After it the first places of `output` hold the samples of `channel`, a number from 0 on, its later places what they held, and
- * `count` how many samples there are: as many as the block has for each channel, 0 to 65535. The code -32768 marks a dropout and
- * becomes a NaN, which may be any NaN; every other code becomes exactly its number. Nothing else tells of a dropout, so look for
- * a NaN before a filter: pulse_j211 makes a whole pulse NaN of one.
+ * `channel` counts from 0. After it the first places of `output` hold the samples of that channel, the later places of `output`
+ * what they held, and `count` how many samples there are: as many as the block has for each channel, 0 to 65535. The code -32768
+ * marks a dropout and becomes a NaN, which may be any NaN; every other code becomes exactly its number, and 0 becomes +0. Nothing
+ * else tells of a dropout, so look for NaNs before a filter: one makes every place of a pulse through pulse_j211 a NaN.
  *
  * 13: count_len is not 1; then 22: block_len is 0, a header length below 4 or above block_len, or a channel count of 0 or above
  * 8; then 23: header length + 2 x channel count x samples per channel above block_len; then 24: `channel` at or above the
