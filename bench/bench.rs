@@ -1,7 +1,7 @@
-// Measures the port's archives beside the published Rust, and whole pulses beside the oracle's writing of them, in one process,
-// on the same inputs: ordinary numbers from -1 to 1, nothing subnormal. Each row first checks that its sides answer the same
-// bits; then they run in turn, and the best time of each is taken. Prints Markdown tables. Usage: bench [ROUNDS]; bench/run
-// builds it.
+// Measures the port's archives beside the published Rust, and whole pulses and the rival's blocks beside the oracle's writing of
+// them, in one process, on the same inputs: ordinary numbers from -1 to 1, nothing subnormal, and codes without a dropout. Each
+// row first checks that its sides answer the same bits; then they run in turn, and the best time of each is taken. Prints
+// Markdown tables. Usage: bench [ROUNDS]; bench/run builds it.
 mod port;
 
 use port::Run;
@@ -126,6 +126,15 @@ impl Bench {
         }
     }
 
+    fn channel_rows(&mut self) {
+        for channels in [1, 8] {
+            let name = format!("channel of {BUFFER} samples, block of {channels} channel{}", if channels == 1 { "" } else { "s" });
+            let (block, channel) = (rival_block(channels, BUFFER), channels / 2);
+            let port = port::read_channel(block.clone(), channel, BUFFER);
+            self.plain_row(&name, port, Box::new(move |_, output| rust_ring::read_channel(&block, channel, BUFFER, output)));
+        }
+    }
+
     /// The best time of each of two makers of DESIGNS designs, ns a design.
     fn design_row(&mut self, name: &str, same: bool, mut port: impl FnMut(), mut rust: impl FnMut()) {
         if !same {
@@ -178,6 +187,14 @@ impl Bench {
     }
 }
 
+/// A block of the rival's of so many channels and samples, without a dropout.
+fn rival_block(channels: usize, samples: usize) -> Vec<u8> {
+    let mut block = vec![4, channels as u8];
+    block.extend((samples as u16).to_le_bytes());
+    block.extend(numbers(channels * samples, 9).iter().flat_map(|x| ((x * 32767.0) as i16).to_le_bytes()));
+    block
+}
+
 fn ring(taps: &[f64]) -> Run {
     let mut filter = rust_ring::fir(taps);
     Box::new(move |input, output| filter.all(input, output))
@@ -223,6 +240,7 @@ fn main() {
     bench.cascade_rows();
     bench.in_place_rows();
     bench.pulse_rows();
+    bench.channel_rows();
     bench.design_rows();
     bench.by_taps();
     bench.by_length();

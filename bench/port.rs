@@ -12,6 +12,7 @@ extern "C" {
     fn pulse_fir_block(taps: *const f64, taps_len: usize, samples: *mut f64, samples_len: usize, counts: *mut usize, counts_len: usize, input: *const f64, input_len: usize, output: *mut f64, output_len: usize, clouded: *mut usize, clouded_len: usize) -> u8;
     fn pulse_fir_block_in_place(taps: *const f64, taps_len: usize, samples: *mut f64, samples_len: usize, counts: *mut usize, counts_len: usize, buffer: *mut f64, buffer_len: usize, clouded: *mut usize, clouded_len: usize) -> u8;
     fn pulse_j211(channel_class: usize, rate: f64, buffer: *mut f64, buffer_len: usize) -> u8;
+    fn pulse_read_channel(block: *const u8, block_len: usize, channel: usize, output: *mut f64, output_len: usize, count: *mut usize, count_len: usize) -> u8;
 }
 #[cfg(steps)]
 extern "C" {
@@ -129,6 +130,16 @@ pub fn j211(class: usize, rate: f64, length: usize) -> Run {
     Box::new(move |_, output| {
         for b in output.chunks_mut(length) {
             accepted(unsafe { pulse_j211(class, rate, b.as_mut_ptr(), b.len()) });
+        }
+    })
+}
+
+/// A channel of a block, read into so many places, one reading after the other.
+pub fn read_channel(block: Vec<u8>, channel: usize, length: usize) -> Run {
+    Box::new(move |_, output| {
+        let mut count = 0;
+        for b in output.chunks_mut(length) {
+            accepted(unsafe { pulse_read_channel(block.as_ptr(), block.len(), channel, b.as_mut_ptr(), b.len(), &mut count, 1) });
         }
     })
 }

@@ -1,12 +1,13 @@
 // The Rust side of the bench: the published butterworth.rs, chebyshev.rs, fir.rs and scalar.rs, unchanged, under the oracle's
 // scalar, whose elementary functions are the port's. Built twice, as the crates rust_ring and rust_deque, which differ in
 // the stand-in for heapless alone. Everything generic is instantiated here, so that updates are inlined into the loops. The
-// channel classes, which the published Rust has not, are the oracle's.
+// channel classes and the rival's blocks, which the published Rust has not, are the oracle's.
 #[allow(dead_code)]
 mod core;
 #[allow(dead_code)]
 mod elementary;
 mod j211;
+mod rival;
 
 use crate::core::filters::butterworth::{design_butterworth_lp, ButterworthLp};
 use crate::core::filters::chebyshev::design_chebyshev1_lp;
@@ -79,6 +80,13 @@ pub fn lowpass(order: usize, cutoff: f64, rate: f64) -> Box<dyn Running> {
 pub fn j211(class: usize, rate: f64, length: usize, buffer: &mut [f64]) {
     for b in buffer.chunks_mut(length) {
         assert_eq!(j211::filter(class, rate, b), 0);
+    }
+}
+
+/// A channel of a block, read into so many places, one reading after the other.
+pub fn read_channel(block: &[u8], channel: usize, length: usize, output: &mut [f64]) {
+    for b in output.chunks_mut(length) {
+        assert_eq!(rival::read_channel(block, channel, b), (0, length));
     }
 }
 

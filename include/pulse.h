@@ -37,6 +37,7 @@
  *     pulse_fir_block_in_place            4536
  *     pulse_fir_reset                       24
  *     pulse_j211                            72
+ *     pulse_read_channel                    56
  *
  * These are bounds, which `tools/stack` reads off the archive's machine code; no function calls itself. They leave out what
  * memcpy, memmove and memset take: little by themselves, but kilobytes where the dynamic loader looks one of them up at its
