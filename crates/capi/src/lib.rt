@@ -3,7 +3,7 @@
 // 13, and a refused call leaves every slice.
 mod answer;
 mod cascades;
-mod channels;
 mod design;
 mod filters;
 mod pulses;
+mod rival;

@@ -10,25 +10,25 @@ use lib.Ieee.{Float, nan}
 use Rattle.runs.specs.Refusals.{Accepted, ShortOutput, ChannelNotPresent}
 use Rattle.endian.specs.Endian.{Bytes}
 use Rattle.recordings.specs.Codes.{IsCode, dropout, sampleOf, Exactly}
-use Rattle.recordings.specs.Format.{Recording, encoded, Holds}
+use Rattle.recordings.specs.Format.{Recording, encoded, Storable}
 use Rattle.recordings.specs.Reading.{refusal, readChannel}
 
 -- the block is a recording as the rival writes it, and any bytes behind it; it has the channel, and the places are enough
 pub record Written (block : List ℕ) (channel places : ℕ) : Type 0 where
   pub recording : Recording
   pub behind : List ℕ
-  pub holds : Holds recording
+  pub holds : Storable recording
   pub bytes : block ≡ encoded recording ++ behind
   pub present : channel < length (recording .channels)
   pub room : recording .samples ≤ places
 
 pub record RivalBlocks : Type 0 where
   -- reading a channel of a recording gives its samples back, whatever stands in the skipped header bytes and behind the samples
-  pub readBack : (r : Recording) (behind : List ℕ) → Holds r → (c : ℕ) (output : List Float) → c < length (r .channels) → r .samples ≤ length output
+  pub readBack : (r : Recording) (behind : List ℕ) → Storable r → (c : ℕ) (output : List Float) → c < length (r .channels) → r .samples ≤ length output
       → readChannel (encoded r ++ behind) c output
       ≡ record { refusal = Accepted; count = r .samples; output = map sampleOf (getD (r .channels) c []) ++ drop (r .samples) output }
   -- a recording is refused for a channel that it does not have and for a short output, and for nothing else
-  pub refused : (r : Recording) (behind : List ℕ) → Holds r → (channel places : ℕ)
+  pub refused : (r : Recording) (behind : List ℕ) → Storable r → (channel places : ℕ)
       → refusal (encoded r ++ behind) channel places
       ≡ cond (leb (length (r .channels)) channel) ChannelNotPresent (cond (ltb places (r .samples)) ShortOutput Accepted)
   -- nothing but recordings is accepted

@@ -2,12 +2,12 @@
 // the stored one, word by word. Prints how many requests of each kind there were and how many agreed. tools/replay.py
 // makes the file.
 mod cascades;
-mod channels;
 mod compare;
 mod functions;
 mod kinds;
 mod list;
 mod pulses;
+mod rival;
 mod taps;
 
 use cascade::Cascade;
@@ -19,7 +19,7 @@ use libc::STDOUT_FILENO;
 fn on_no_filter(kind: usize, asked: &[u64], stored: &[u64]) -> bool {
     let mut alike = functions::request(kind, asked, stored);
     pulses::request(kind, asked, stored, &mut alike);
-    channels::request(kind, asked, stored, &mut alike);
+    rival::request(kind, asked, stored, &mut alike);
     alike
 }
 

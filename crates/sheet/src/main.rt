@@ -6,7 +6,6 @@ ghost use lib.ListN.{length};
 mod answer;
 mod answered;
 mod cascades;
-mod channels;
 mod fault;
 mod filters;
 mod functions;
@@ -15,6 +14,7 @@ mod parameters;
 mod pulses;
 mod put;
 mod records;
+mod rival;
 mod running;
 mod words;
 
@@ -28,7 +28,7 @@ use libc::STDOUT_FILENO;
 use records::Records;
 
 // The longest line that is answered, without its end.
-const LONGEST_LINE: usize = 8192;
+pub(crate) const LONGEST_LINE: usize = 8192;
 
 // That, a CR, and a byte that a longer line fills.
 const LINE_ROOM: usize = 8194;

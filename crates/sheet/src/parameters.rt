@@ -2,6 +2,7 @@
 // of the protocol's tests, or none.
 ghost use Prim.Native.Nat.{_≤_};
 ghost use lib.ListN.{length};
+use super::LONGEST_LINE;
 use super::fault::Fault;
 use super::line::bytes_of;
 use super::line::token_count;
@@ -17,11 +18,11 @@ use text_answers::next_token;
 use text_answers::put_pairs;
 use text_answers::same_bytes;
 
-// The most samples of a block or a pulse, places of an output, and ready-made taps of a line.
+// The most samples that a filter or a channel class takes in a line, places of an output, and ready-made taps.
 pub(crate) const MOST: usize = 256;
 
-// The most bytes of a line's block, two digits each.
-pub(crate) const MOST_BYTES: usize = 4096;
+// The most bytes that a line writes, two digits each.
+pub(crate) const MOST_BYTES: usize = LONGEST_LINE / 2;
 
 pub(crate) struct OneFloat {
     pub(crate) fault: Fault,
@@ -96,7 +97,7 @@ pub(crate) struct ChannelParameters {
     pub(crate) bytes: usize,
 }
 
-// The bytes of a token, and whether it is none.
+// How many bytes a token writes, and the fault where it writes none.
 struct Bytes {
     fault: Fault,
     n: usize,
@@ -413,7 +414,7 @@ fn next_bytes(rest: &[u8], from: usize, bytes: &mut [u8]) -> Bytes
             n: 0,
         };
     }
-    if !is_pairs(token) {
+    if !is_pairs(token) | (token.len() / 2 > bytes.len()) {
         return Bytes {
             fault: Fault::BadNumber,
             n: 0,

@@ -1,10 +1,10 @@
--- `sheet::channels::answer_rival` meets its contract. The parts that are lent are as long as `channel_parameters` says.
+-- `sheet::rival::answer_rival` meets its contract. The parts that are lent are as long as `channel_parameters` says.
 use mathlib.Core.Path.{sym}
 use lib.Seq.{length-take-le}
 use native.Mathlib.Omega.{arith}
 use borrow.Author.Needs.{needs}
-use Rattle.sheet.proofs.channels.answer_rival.Statement.{statement}
-use Rattle.sheet.proofs.channels.answer_rival.Tie as tie
+use Rattle.sheet.proofs.rival.answer_rival.Statement.{statement}
+use Rattle.sheet.proofs.rival.answer_rival.Tie as tie
 
 pub answer-rival-spec : {M : Type 1} → statement M
 answer-rival-spec =

@@ -1,4 +1,4 @@
-// Channels of the rival recorder's blocks.
+// Blocks of the rival recorder.
 ghost use mathlib.Core.Path.{_≡_};
 ghost use Rattle.c_calls.specs.Reading.{readCall};
 

@@ -1,4 +1,4 @@
-// Channels of the rival recorder's blocks.
+// Blocks of the rival recorder.
 use super::answered::Answered;
 use super::answered::answer_fault;
 use super::answered::end_answer;

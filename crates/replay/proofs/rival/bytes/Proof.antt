@@ -1,11 +1,11 @@
--- `replay::channels::bytes` meets its contract. The counter is at most 512, and the array keeps its length.
+-- `replay::rival::bytes` meets its contract. The counter is at most 512, and the array keeps its length.
 use Prim.Native.Nat.{_≤_, _-_}
 use native.Mathlib.Omega.{arith}
 use borrow.Author.Needs.{needs}
 use mathlib.Core.Path.{_≡_}
 use lib.ListN.{length, length-set}
-use Rattle.replay.proofs.channels.bytes.Statement.{statement}
-use Rattle.replay.proofs.channels.bytes.Tie as tie
+use Rattle.replay.proofs.rival.bytes.Statement.{statement}
+use Rattle.replay.proofs.rival.bytes.Tie as tie
 
 abbrev Inv-loop : tie.InvT-loop
 Inv-loop words block₀ i₀ block i = (i ≤ 512) × (512 ≡ length block)

@@ -1,10 +1,10 @@
--- `capi::channels::pulse_read_channel` meets its contract.
+-- `capi::rival::pulse_read_channel` meets its contract.
 use borrow.Author.Tests.{eq-eqb, ne-eqb}
 use Rattle.c_calls.specs.Reading.{readCall}
 use Rattle.c_layout.proofs.Places.{set-one}
 use borrow.Author.Needs.{needs}
-use Rattle.capi.proofs.channels.pulse_read_channel.Statement.{statement}
-use Rattle.capi.proofs.channels.pulse_read_channel.Tie as tie
+use Rattle.capi.proofs.rival.pulse_read_channel.Statement.{statement}
+use Rattle.capi.proofs.rival.pulse_read_channel.Tie as tie
 
 misfit : tie.Need-returns
 unfolding readCall
