@@ -78,7 +78,7 @@ extern "C" {
 #define PULSE_BAD_TAPS 12           /* length 0 or above 64, held count above the length, or window code above 4 */
 #define PULSE_BAD_CALL 13           /* a slice of another length than asked for, a flag above 1, or a design's window code above 3 */
 #define PULSE_INVALID_CLASS 21      /* a channel class other than 60, 180, 600 and 1000 */
-#define PULSE_INVALID_HEADER 22     /* no header of the rival recorder's (pulse_read_channel) */
+#define PULSE_INVALID_HEADER 22     /* an empty block, a header length below 4 or past the end, or channels outside 1 to 8 */
 #define PULSE_TRUNCATED_BLOCK 23    /* samples that run past the end of the rival recorder's block */
 #define PULSE_CHANNEL_NOT_PRESENT 24 /* a channel that the rival recorder's block does not have */
 
@@ -294,14 +294,16 @@ uint8_t pulse_j211(size_t channel_class, double sample_rate, double *PULSE_RESTR
  * channel; header bytes from 4 on are skipped. Samples start after the header: signed 16-bit two's complement, channel 0, 1 and
  * so on, then the next instant. Every number has its low byte first. Bytes past the samples are ignored.
  *
- * `channel` counts from 0. After it the first places of `output` hold the samples of that channel, the later places of `output`
- * what they held, and `count` how many samples there are: as many as the block has for each channel, 0 to 65535. The code -32768
- * marks a dropout and becomes a NaN, which may be any NaN; every other code becomes exactly its number, and 0 becomes +0. Nothing
- * else tells of a dropout, so look for NaNs before a filter: one makes every place of a pulse through pulse_j211 a NaN.
+ * `channel` counts from 0, and `count` is one size_t. After the call the first places of `output` hold the samples of that channel,
+ * the later places of `output` what they held, and `count` how many samples there are: as many as the block has for each channel.
+ * Bytes 2 and 3 say how many places are needed; 65535 are always enough. The code -32768 marks a dropout and becomes a NaN, which
+ * may be any NaN; every other code becomes exactly its number, and 0 becomes +0. Nothing else tells of a dropout, so look for NaNs
+ * before a filter: one makes every place of a pulse through pulse_j211 a NaN.
  *
  * 13: count_len is not 1; then 22: block_len is 0, a header length below 4 or above block_len, or a channel count of 0 or above
  * 8; then 23: header length + 2 x channel count x samples per channel above block_len; then 24: `channel` at or above the
- * channel count; then 5: output_len below the samples per channel. A refusal leaves `count` too: it is not set to 0. */
+ * channel count; then 5: output_len below the samples per channel. A refusal leaves `count` too, so it is not set to 0: a number
+ * other than 0 means a count of 0. */
 #define PULSE_COUNT_LEN 1
 #define PULSE_MAX_CHANNELS 8
 uint8_t pulse_read_channel(const uint8_t *PULSE_RESTRICT block, size_t block_len, size_t channel,

@@ -98,7 +98,7 @@ enum wrong {
     CHANNEL_WRITES_BEHIND,  /* writes one place behind the samples */
     CHANNEL_WRITES_BLOCK,   /* an accepted call makes the block's last byte another */
     CHANNEL_COUNT_MORE,     /* the count is one too many */
-    CHANNEL_COUNT_LEFT,     /* no samples leave the count */
+    CHANNEL_COUNT_LEFT,     /* a channel of no samples leaves the count */
     CHANNEL_REFUSED_COUNTS, /* a refused call makes the count 0 */
     CHANNEL_REFUSED_WRITES, /* a refused call makes the first place 0 */
     CHANNEL_SHORT_WRITES,   /* a short output gets what fits */
@@ -112,13 +112,13 @@ enum wrong {
     CHANNEL_HEADER_4,       /* a header of 4 bytes is refused */
     CHANNEL_HEADER_ALL,     /* a header as long as the block is refused */
     CHANNEL_HEADER_PAST,    /* a header one byte longer than the block is accepted */
-    CHANNEL_NONE,           /* no channels are accepted */
+    CHANNEL_NONE,           /* a channel count of 0 is accepted */
     CHANNEL_EIGHT,          /* eight channels are refused */
     CHANNEL_NINE,           /* nine channels are accepted */
     CHANNEL_BYTE_MISSING,   /* samples one byte past the end are accepted */
     CHANNEL_EXACT_BLOCK,    /* samples up to the end are refused */
     CHANNEL_BYTES_BEHIND,   /* bytes past the samples are refused */
-    CHANNEL_NO_SAMPLES,     /* no samples are refused */
+    CHANNEL_NO_SAMPLES,     /* a block of no samples is refused */
     CHANNEL_END_TRUNCATED,  /* the end of the samples is taken modulo 2^16 */
     CHANNEL_TRUNCATED,      /* the channel is taken modulo 2^32 */
     CHANNEL_AT_COUNT,       /* the channel at the channel count is accepted */
@@ -623,7 +623,6 @@ static void accepted_channel(struct header h, CHANNEL) {
         count[0] = h.samples + (is(CHANNEL_COUNT_MORE) ? 1 : 0);
 }
 
-uint8_t __real_pulse_read_channel(CHANNEL);
 REAL(pulse_read_channel, CHANNEL) {
     if (asked() > NOTHING && asked() < CHANNEL_HIGH_FIRST)
         return __real_pulse_read_channel(block, block_len, channel, output, output_len, count, count_len);

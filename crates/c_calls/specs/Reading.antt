@@ -14,7 +14,7 @@ pub record ReadCallRecord : Type 0 where
   pub output : List Float
   pub count : List ℕ
 
--- a call on a place for the count: `readChannel`, whose count is stored where it is accepted
+-- what `readChannel` returns, and its count in the place for it where nothing is refused
 abbrev pub counted : ReadRecord → List ℕ → ReadCallRecord
 counted r count = record { refusal = r .refusal; output = r .output; count = cond (eqb (r .refusal) Accepted) (r .count ∷ []) count }
 

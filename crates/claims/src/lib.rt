@@ -1,4 +1,4 @@
-// What is claimed of designs and filters. No program calls these functions: they stand for their contracts, so that the check
+// What is claimed of designs, filters and the rival's blocks. No program calls these functions: they stand for their contracts, so that the check
 // names each claim as proved.
 ghost use Rattle.claims.specs.Refused.{RefusedByCheck};
 ghost use Rattle.claims.specs.Fresh.{AcceptedIsFresh, CMadeIsFresh};

@@ -41,14 +41,14 @@ BadCall = 13
 abbrev pub InvalidClass : ℕ
 InvalidClass = 21
 
--- 02's Q-2: no header of the rival's
+-- 02's Q-2: an empty block, a header length below 4 or past the end, or channels outside 1 to 8
 abbrev pub InvalidHeader : ℕ
 InvalidHeader = 22
 
--- samples that run past the end of their block
+-- samples that run past the end
 abbrev pub TruncatedBlock : ℕ
 TruncatedBlock = 23
 
--- a channel that its block does not have
+-- a channel not present
 abbrev pub ChannelNotPresent : ℕ
 ChannelNotPresent = 24

@@ -30,8 +30,7 @@ pub const BAD_CALL: u8 = 13;
 // From 02's Q-1: not a channel class.
 pub const INVALID_CLASS: u8 = 21;
 
-// From 02's Q-2: no header of the rival's, samples that run past the end of their block, and a channel that its block does not
-// have.
+// From 02's Q-2, of a rival's block: its header, samples that run past its end, and a channel that is not present.
 pub const INVALID_HEADER: u8 = 22;
 
 pub const TRUNCATED_BLOCK: u8 = 23;
