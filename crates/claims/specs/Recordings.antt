@@ -17,7 +17,7 @@ use Rattle.recordings.specs.Reading.{refusal, readChannel}
 pub record Written (block : List ℕ) (channel places : ℕ) : Type 0 where
   pub recording : Recording
   pub behind : List ℕ
-  pub holds : Storable recording
+  pub storable : Storable recording
   pub bytes : block ≡ encoded recording ++ behind
   pub present : channel < length (recording .channels)
   pub room : recording .samples ≤ places

@@ -10,7 +10,7 @@ use Rattle.recordings.specs.Reading.{samplesEnd, refusal}
 use Rattle.claims.specs.Recordings.{Written}
 use Rattle.recordings.proofs.Codes.{dropout-is-nan, exact}
 use Rattle.recordings.proofs.Reading.{readable, header}
-use Rattle.recordings.proofs.Format.{read-back, refused-back, decoded, holds, counted, encoded-back}
+use Rattle.recordings.proofs.Format.{read-back, refused-back, decoded, storable, counted, encoded-back}
 use Rattle.claims.proofs.rival_blocks.Statement.{statement}
 use Rattle.claims.proofs.rival_blocks.Tie as tie
 
@@ -21,7 +21,7 @@ only-written block bytes channel places e =
     record {
       recording = decoded block bytes h (p .whole);
       behind = drop (samplesEnd block) block;
-      holds = holds block bytes h (p .whole);
+      storable = storable block bytes h (p .whole);
       bytes = encoded-back block bytes h (p .whole);
       present = omega (arith, counted block bytes h (p .whole), p .present);
       room = p .room;
