@@ -15,4 +15,5 @@ abbrev μ-loop : tie.MeasureT-loop
 pub are-bytes-spec : {M : Type 1} → statement M
 are-bytes-spec =
     tie.close
-    (tie.spec Inv-loop μ-loop (λ c. tt) (λ c. omega arith) (λ c. omega arith) (λ c. search needs) (λ c. omega arith) (λ c. omega arith) (λ c. tt) (λ c. search needs))
+    (tie.spec Inv-loop μ-loop (λ c. tt) (λ c. omega arith) (λ c. omega arith) (λ c. search needs) (λ c. omega arith) (λ c. omega arith)
+    (λ c. tt) (λ c. search needs))
