@@ -1,11 +1,6 @@
 -- `text_numbers::is_pairs` meets its contract.
-use mathlib.Core.Path.{_≡_, refl, sym, ap, _∙_}
-use mathlib.Core.Bool.{Bool, true, false}
 use native.Mathlib.Nat.{zero-add}
-use lib.Dec.{eqb}
-use lib.ListN.{length}
 use borrow.Author.Tests.{eq-eqb, ne-eqb}
-use Rattle.text_tokens.specs.Tokens.{isHexDigit, leading}
 use Rattle.text_decimals.specs.Decimals.{all}
 use Rattle.text_numbers.specs.Pairs.{isPairs}
 use Rattle.text_numbers.proofs.Numbers.{hex-run}

@@ -1,5 +1,5 @@
 -- `text_numbers::put_pairs` meets its contract.
-use Prim.Native.Nat.{_≤_, _<_, _-_, _/_, min}
+use Prim.Native.Nat.{_<_, _-_, _/_, min}
 use mathlib.Core.Path.{_≡_, sym, _∙_}
 use mathlib.Core.Logic.{⊎-elim}
 use native.Mathlib.Omega.{arith}
