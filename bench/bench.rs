@@ -154,11 +154,12 @@ impl Bench {
     }
 
     fn design_rows(&mut self) {
-        let same = port::lowpass_designs(1, CUTOFF, RATE) == rust_ring::lowpass_bits(CUTOFF, RATE);
-        let port = || drop(black_box(port::lowpass_designs(DESIGNS, black_box(CUTOFF), black_box(RATE))));
+        let same = |raw| port::lowpass_designs(raw, 1, CUTOFF, RATE) == rust_ring::lowpass_bits(CUTOFF, RATE);
+        let port = |raw| move || drop(black_box(port::lowpass_designs(raw, DESIGNS, black_box(CUTOFF), black_box(RATE))));
         let name = "design, low pass of order 8 (ns a design)";
-        self.design_row(name, same, port, || rust_ring::lowpass_designs(DESIGNS, CUTOFF, RATE));
-        self.design_row(&format!("{name}; {LIBM}"), same, port, || rust_ring::lowpass_designs_libm(DESIGNS, CUTOFF, RATE));
+        self.design_row(name, same(false), port(false), || rust_ring::lowpass_designs(DESIGNS, CUTOFF, RATE));
+        self.design_row(&format!("{name}; the raw form"), same(true), port(true), || rust_ring::lowpass_designs(DESIGNS, CUTOFF, RATE));
+        self.design_row(&format!("{name}; {LIBM}"), same(false), port(false), || rust_ring::lowpass_designs_libm(DESIGNS, CUTOFF, RATE));
         let same = port::chebyshev1_designs(1, CUTOFF, RIPPLE, RATE) == rust_ring::chebyshev1_bits(CUTOFF, RIPPLE, RATE);
         let port = || drop(black_box(port::chebyshev1_designs(DESIGNS, black_box(CUTOFF), black_box(RIPPLE), black_box(RATE))));
         let name = "design, Chebyshev I of order 8 (ns a design)";

@@ -3,6 +3,8 @@
 
 extern "C" {
     fn pulse_design_butterworth_lp(order: usize, cutoff: f64, rate: f64, numbers: *mut f64, numbers_len: usize, counts: *mut usize, counts_len: usize) -> u8;
+    fn pulse_design_butterworth_lp_raw(
+        order: usize, cutoff: f64, rate: f64, numbers: *mut f64, numbers_len: usize, counts: *mut usize, counts_len: usize) -> u8;
     fn pulse_design_chebyshev1_lp(order: usize, cutoff: f64, decibels: f64, rate: f64, numbers: *mut f64, numbers_len: usize, counts: *mut usize, counts_len: usize) -> u8;
     fn pulse_cascade_step(numbers: *mut f64, numbers_len: usize, counts: *mut usize, counts_len: usize, x: f64, answer: *mut f64, answer_len: usize, clouded: *mut usize, clouded_len: usize) -> u8;
     fn pulse_cascade_block(numbers: *mut f64, numbers_len: usize, counts: *mut usize, counts_len: usize, input: *const f64, input_len: usize, output: *mut f64, output_len: usize, clouded: *mut usize, clouded_len: usize) -> u8;
@@ -144,15 +146,17 @@ pub fn read_channel(block: Vec<u8>, channel: usize, length: usize) -> Run {
     })
 }
 
-/// So many designs of order 8; the bits of the four sections of the last.
-pub fn lowpass_designs(count: usize, cutoff: f64, rate: f64) -> Vec<u64> {
+/// So many designs of order 8, in the default form or the raw one; the bits of the four sections of the last.
+pub fn lowpass_designs(raw: bool, count: usize, cutoff: f64, rate: f64) -> Vec<u64> {
+    let design = if raw { pulse_design_butterworth_lp_raw } else { pulse_design_butterworth_lp };
     let mut c = lowpass(8, cutoff, rate);
     for _ in 0..count {
-        accepted(unsafe { pulse_design_butterworth_lp(8, cutoff, rate, c.numbers.as_mut_ptr(), 32, c.counts.as_mut_ptr(), 3) });
+        accepted(unsafe { design(8, cutoff, rate, c.numbers.as_mut_ptr(), 32, c.counts.as_mut_ptr(), 3) });
     }
     c.numbers[..28].iter().map(|x| x.to_bits()).collect()
 }
 
+/// The same of Chebyshev I, in the default form.
 pub fn chebyshev1_designs(count: usize, cutoff: f64, decibels: f64, rate: f64) -> Vec<u64> {
     let mut c = lowpass(8, cutoff, rate);
     for _ in 0..count {

@@ -21,17 +21,24 @@
  *
  * Stack. The stack is not part of the proof. A call takes at most this many bytes of it, its return address included:
  *
- *     pulse_design_butterworth_lp         1608
- *     pulse_design_butterworth_hp         1608
- *     pulse_design_butterworth_bp          440
- *     pulse_design_chebyshev1_lp          1640
- *     pulse_design_chebyshev2_lp          1640
+ *     pulse_design_butterworth_lp         1624
+ *     pulse_design_butterworth_lp_raw     1608
+ *     pulse_design_butterworth_hp         1624
+ *     pulse_design_butterworth_hp_raw     1608
+ *     pulse_design_butterworth_bp          968
+ *     pulse_design_butterworth_bp_raw      968
+ *     pulse_design_chebyshev1_lp          1976
+ *     pulse_design_chebyshev1_lp_raw      1976
+ *     pulse_design_chebyshev2_lp          1976
+ *     pulse_design_chebyshev2_lp_raw      1976
  *     pulse_cascade_step                     8
  *     pulse_cascade_block                  464
  *     pulse_cascade_block_in_place        2656
  *     pulse_cascade_reset                    8
- *     pulse_design_fir_lp                 2248
- *     pulse_fir_from_coeffs               1624
+ *     pulse_design_fir_lp                 4872
+ *     pulse_design_fir_lp_raw             3848
+ *     pulse_fir_from_coeffs               2136
+ *     pulse_fir_from_coeffs_raw           1624
  *     pulse_fir_step                        32
  *     pulse_fir_block                     2376
  *     pulse_fir_block_in_place            4536
@@ -81,6 +88,7 @@ extern "C" {
 #define PULSE_INVALID_HEADER 22     /* an empty block, a header length below 4 or past the end, or channels outside 1 to 8 */
 #define PULSE_TRUNCATED_BLOCK 23    /* samples that run past the end of the rival recorder's block */
 #define PULSE_CHANNEL_NOT_PRESENT 24 /* a channel that the rival recorder's block does not have */
+#define PULSE_NON_FINITE_COEFFICIENT 25 /* a coefficient that is a NaN or infinite; of the default forms alone, never of a raw one */
 
 /* Limits of the designs. */
 #define PULSE_MAX_ORDER 8           /* low pass, high pass, Chebyshev I and II */
@@ -145,37 +153,65 @@ enum pulse_window {
 #define PULSE_ANSWER_LEN 1
 #define PULSE_CLOUDED_LEN 1
 
+/* Default and raw forms.
+ *
+ * Each design, and the making of a FIR of ready-made taps, has two forms with the same parameters. The default form is refused
+ * by 25, after every other check, where a coefficient is a NaN or infinite. The coefficients are b0, b1, b2, a1 and a2 of each
+ * section counted, b0, b1 and a1 of the first-order part where its flag is 1, and the taps up to the length.
+ *
+ * The raw form, with _raw behind the name, is never refused by 25: the coefficients are handed out as the Rust works them out,
+ * NaN or infinite too. It is for sweeps over designs that look at the coefficients themselves. Such a filter runs
+ * as any other; its answers may be NaN or infinite and yet not Clouded, since that speaks of samples. In all else the raw form is
+ * as the default one: the same other refusals in the same order, and where both accept, the same bits in every place.
+ *
+ * 25 says nothing of a filter that is finite and useless; both forms accept it. Two Blackman taps are both between -1e-17 and 0,
+ * and a narrow band pass of order 2 to 4 is off its frequency long before its coefficients are NaN. */
+
 /* Designs of a cascade.
  *
  * After each, `numbers` holds the coefficients, carried values +0 and unused parts +0; `counts` holds the number of
- * sections, the first-order flag and 0. Frequencies have the unit of the sample rate; an infinite rate is accepted, and so
- * is a design whose coefficients overflow.
+ * sections, the first-order flag and 0. Frequencies have the unit of the sample rate; an infinite rate is accepted.
  *
- * Each is refused by 13 where numbers_len is not 32 or counts_len is not 3, and after that as said there, in that order. */
+ * Each is refused by 13 where numbers_len is not 32 or counts_len is not 3, after that as said there, in that order, and last,
+ * in its default form, by 25. */
 
 /* Butterworth low pass: order / 2 sections, and the first-order part where the order is odd.
- * 13; 1: order 0 or above 8; 3: rate NaN or at most 0; 2: cutoff NaN, at most 0, or at least rate x 0.5. */
+ * 13; 1: order 0 or above 8; 3: rate NaN or at most 0; 2: cutoff NaN, at most 0, or at least rate x 0.5; 25, not of the raw
+ * form: as of a cutoff so large that PI x cutoff overflows. */
 uint8_t pulse_design_butterworth_lp(size_t order, double cutoff, double sample_rate,
                                     double *PULSE_RESTRICT numbers, size_t numbers_len, size_t *PULSE_RESTRICT counts, size_t counts_len);
+uint8_t pulse_design_butterworth_lp_raw(size_t order, double cutoff, double sample_rate,
+                                        double *PULSE_RESTRICT numbers, size_t numbers_len, size_t *PULSE_RESTRICT counts, size_t counts_len);
 
 /* Butterworth high pass: parts and refusals as of the low pass. */
 uint8_t pulse_design_butterworth_hp(size_t order, double cutoff, double sample_rate,
                                     double *PULSE_RESTRICT numbers, size_t numbers_len, size_t *PULSE_RESTRICT counts, size_t counts_len);
+uint8_t pulse_design_butterworth_hp_raw(size_t order, double cutoff, double sample_rate,
+                                        double *PULSE_RESTRICT numbers, size_t numbers_len, size_t *PULSE_RESTRICT counts, size_t counts_len);
 
 /* Butterworth band pass from `low` to `high`: as many sections as the order, and no first-order part.
- * 13; 1: order 0 or above 4; 2: an edge NaN, low at most 0, high at most low, or high at least rate x 0.5; 3: rate NaN. */
+ * 13; 1: order 0 or above 4; 2: an edge NaN, low at most 0, high at most low, or high at least rate x 0.5; 3: rate NaN; 25, not
+ * of the raw form: as of low 1, high 1.0001 and a rate of 4 from order 2 on. */
 uint8_t pulse_design_butterworth_bp(size_t order, double low, double high, double sample_rate,
                                     double *PULSE_RESTRICT numbers, size_t numbers_len, size_t *PULSE_RESTRICT counts, size_t counts_len);
+uint8_t pulse_design_butterworth_bp_raw(size_t order, double low, double high, double sample_rate,
+                                        double *PULSE_RESTRICT numbers, size_t numbers_len, size_t *PULSE_RESTRICT counts, size_t counts_len);
 
 /* Chebyshev low pass of type I, `ripple_db` the ripple of the pass band in decibels: parts as of the Butterworth low pass.
- * 13; 1, 3, 2 as of the Butterworth low pass; then 4: ripple_db NaN or at most 0. */
+ * 13; 1, 3, 2 as of the Butterworth low pass; then 4: ripple_db NaN or at most 0; then 25, not of the raw form: as of a ripple_db
+ * of 2e-16 or less. */
 uint8_t pulse_design_chebyshev1_lp(size_t order, double cutoff, double ripple_db, double sample_rate,
                                    double *PULSE_RESTRICT numbers, size_t numbers_len, size_t *PULSE_RESTRICT counts, size_t counts_len);
+uint8_t pulse_design_chebyshev1_lp_raw(size_t order, double cutoff, double ripple_db, double sample_rate,
+                                       double *PULSE_RESTRICT numbers, size_t numbers_len, size_t *PULSE_RESTRICT counts, size_t counts_len);
 
 /* Chebyshev low pass of type II, `stopband_db` the attenuation of the stop band in decibels: parts as of the Butterworth
- * low pass. 13; 1, 3, 2 as of the Butterworth low pass; then 4: stopband_db NaN or at most 0. */
+ * low pass. 13; 1, 3, 2 as of the Butterworth low pass; then 4: stopband_db NaN or at most 0; then 25, not of the raw form: as of
+ * an odd order and a stopband_db of 2e-16 or less, or of an order from 2 on and one of 3090 or more. */
 uint8_t pulse_design_chebyshev2_lp(size_t order, double cutoff, double stopband_db, double sample_rate,
                                    double *PULSE_RESTRICT numbers, size_t numbers_len, size_t *PULSE_RESTRICT counts, size_t counts_len);
+uint8_t pulse_design_chebyshev2_lp_raw(size_t order, double cutoff, double stopband_db, double sample_rate,
+                                       double *PULSE_RESTRICT numbers, size_t numbers_len, size_t *PULSE_RESTRICT counts, size_t counts_len);
 
 /* Running a cascade. */
 
@@ -213,20 +249,27 @@ uint8_t pulse_cascade_reset(double *PULSE_RESTRICT numbers, size_t numbers_len, 
 /* Making a FIR filter. */
 
 /* Low pass by a windowed sinc: `taps_asked` taps, `cutoff` as a share of the sample rate, `window` 0 to 3. After it `taps`
- * holds the taps and behind them +0, `samples` is all +0, and `counts` holds the number of taps, 0 and the window code. A
- * single tap with a window other than the rectangular one is a NaN, and is accepted.
+ * holds the taps and behind them +0, `samples` is all +0, and `counts` holds the number of taps, 0 and the window code.
  * 13: taps_len or samples_len is not 64, counts_len not 3, or window above 3; then 1: taps_asked 0 or above 64; then 2:
- * cutoff NaN, at most 0, or at least 0.5. */
+ * cutoff NaN, at most 0, or at least 0.5; then 25, not of the raw form: a single tap with a window other than the rectangular
+ * one is a NaN. */
 uint8_t pulse_design_fir_lp(size_t taps_asked, double cutoff, size_t window,
                             double *PULSE_RESTRICT taps, size_t taps_len, double *PULSE_RESTRICT samples, size_t samples_len,
                             size_t *PULSE_RESTRICT counts, size_t counts_len);
+uint8_t pulse_design_fir_lp_raw(size_t taps_asked, double cutoff, size_t window,
+                                double *PULSE_RESTRICT taps, size_t taps_len, double *PULSE_RESTRICT samples, size_t samples_len,
+                                size_t *PULSE_RESTRICT counts, size_t counts_len);
 
-/* Taps given ready-made: any numbers, coeffs_len of them. After it `taps` holds them and behind them +0, `samples` is all
- * +0, and `counts` holds their number, 0 and the window code 4.
- * 13: taps_len or samples_len is not 64, or counts_len not 3; then 1: coeffs_len 0 or above 64. */
+/* Taps given ready-made, coeffs_len of them: finite numbers, in the raw form any. After it `taps` holds them and behind them +0,
+ * `samples` is all +0, and `counts` holds their number, 0 and the window code 4.
+ * 13: taps_len or samples_len is not 64, or counts_len not 3; then 1: coeffs_len 0 or above 64; then 25, not of the raw form: a
+ * NaN or an infinity among them. */
 uint8_t pulse_fir_from_coeffs(const double *PULSE_RESTRICT coeffs, size_t coeffs_len,
                               double *PULSE_RESTRICT taps, size_t taps_len, double *PULSE_RESTRICT samples, size_t samples_len,
                               size_t *PULSE_RESTRICT counts, size_t counts_len);
+uint8_t pulse_fir_from_coeffs_raw(const double *PULSE_RESTRICT coeffs, size_t coeffs_len,
+                                  double *PULSE_RESTRICT taps, size_t taps_len, double *PULSE_RESTRICT samples, size_t samples_len,
+                                  size_t *PULSE_RESTRICT counts, size_t counts_len);
 
 /* Running a FIR filter. */
 

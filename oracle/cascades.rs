@@ -1,4 +1,5 @@
-// The five cascade designs, answered by the published butterworth.rs and chebyshev.rs.
+// The five cascade designs by the published butterworth.rs and chebyshev.rs, beside 01's checks; what the forms of 02's Q-3 add is in
+// current.rs.
 use crate::core::filters::butterworth::*;
 use crate::core::filters::chebyshev::*;
 use crate::current::{Design, Filter};

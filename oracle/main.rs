@@ -1,6 +1,7 @@
 // The oracle: answers the request lines of the protocol page on standard input by the published Rust. Marks, refusal numbers,
-// limits and blocks are 01's, beside the Rust's filter. j211 and rival are answered by j211.rs and rival.rs alone, from the text
-// of 02, since the Rust has no channel classes and does not read the rival's blocks.
+// limits and blocks are 01's, beside the Rust's filter. A raw design is the Rust's own; a default one is too, unless 02 refuses
+// the Rust's coefficients (current.rs). j211 and rival are answered by j211.rs and rival.rs alone, from the text of 02, since the
+// Rust has no channel classes and does not read the rival's blocks.
 mod cascades;
 mod core;
 mod current;
@@ -12,7 +13,7 @@ mod text;
 
 use crate::core::filters::FilterError;
 use cascades::Kind;
-use current::{places, refuse, Current};
+use current::{places, refuse, Current, Form};
 use std::io::{BufRead, BufReader, BufWriter, Write};
 
 const LONGEST_LINE: usize = 8192;
@@ -23,6 +24,7 @@ const BUFFER: usize = 1 << 16;
 type Bad = &'static str;
 const BAD_NUMBER: Bad = "bad number";
 const TOO_MANY: Bad = "too many samples";
+const UNKNOWN: Bad = "unknown request";
 
 /// The number of a Rust error.
 fn refusal(error: FilterError) -> u8 {
@@ -80,13 +82,10 @@ impl Bench {
 
     fn answer(&mut self, word: &[u8], rest: &[&[u8]], out: &mut Vec<u8>) -> Result<(), Bad> {
         match word {
-            b"lowpass" => self.cascade(Kind::LowPass, rest, out),
-            b"highpass" => self.cascade(Kind::HighPass, rest, out),
-            b"bandpass" => self.cascade(Kind::BandPass, rest, out),
-            b"chebyshev1" => self.cascade(Kind::Chebyshev1, rest, out),
-            b"chebyshev2" => self.cascade(Kind::Chebyshev2, rest, out),
-            b"fir" => self.fir(rest, out),
-            b"taps" => self.ready_made(rest, out),
+            b"raw" => {
+                let (word, rest) = rest.split_first().ok_or(UNKNOWN)?;
+                self.design(Form::Raw, word, rest, out)
+            }
             b"cstep" | b"fstep" => {
                 want(rest.len() == 1)?;
                 let x = number(rest[0])?;
@@ -99,33 +98,49 @@ impl Bench {
                 want(rest.is_empty())?;
                 Ok(self.current(word).reset(out))
             }
-            _ => {
-                let f = function(word).ok_or("unknown request")?;
-                want(rest.len() == 1)?;
-                Ok(text::push_float(out, f(number(rest[0])?)))
-            }
+            _ => match function(word) {
+                None => self.design(Form::Default, word, rest, out),
+                Some(f) => {
+                    want(rest.len() == 1)?;
+                    Ok(text::push_float(out, f(number(rest[0])?)))
+                }
+            },
         }
     }
 
-    fn cascade(&mut self, kind: Kind, rest: &[&[u8]], out: &mut Vec<u8>) -> Result<(), Bad> {
-        want(rest.len() == 1 + kind.floats())?;
-        let (order, v) = (count(rest[0])?, numbers(&rest[1..])?);
-        Ok(self.cascade.replace(cascades::design(kind, order, &v), self.line, out))
+    /// A design or ready-made taps; any other word is unknown.
+    fn design(&mut self, form: Form, word: &[u8], rest: &[&[u8]], out: &mut Vec<u8>) -> Result<(), Bad> {
+        match word {
+            b"lowpass" => self.cascade(form, Kind::LowPass, rest, out),
+            b"highpass" => self.cascade(form, Kind::HighPass, rest, out),
+            b"bandpass" => self.cascade(form, Kind::BandPass, rest, out),
+            b"chebyshev1" => self.cascade(form, Kind::Chebyshev1, rest, out),
+            b"chebyshev2" => self.cascade(form, Kind::Chebyshev2, rest, out),
+            b"fir" => self.fir(form, rest, out),
+            b"taps" => self.ready_made(form, rest, out),
+            _ => Err(UNKNOWN),
+        }
     }
 
-    fn fir(&mut self, rest: &[&[u8]], out: &mut Vec<u8>) -> Result<(), Bad> {
+    fn cascade(&mut self, form: Form, kind: Kind, rest: &[&[u8]], out: &mut Vec<u8>) -> Result<(), Bad> {
+        want(rest.len() == 1 + kind.floats())?;
+        let (order, v) = (count(rest[0])?, numbers(&rest[1..])?);
+        Ok(self.cascade.replace(cascades::design(kind, order, &v), form, self.line, out))
+    }
+
+    fn fir(&mut self, form: Form, rest: &[&[u8]], out: &mut Vec<u8>) -> Result<(), Bad> {
         want(rest.len() == 3)?;
         let (taps, cutoff) = (count(rest[0])?, number(rest[1])?);
         let window = taps::window(rest[2]).ok_or("unknown window")?;
-        Ok(self.taps.replace(taps::design(taps, cutoff, window), self.line, out))
+        Ok(self.taps.replace(taps::design(taps, cutoff, window), form, self.line, out))
     }
 
-    fn ready_made(&mut self, rest: &[&[u8]], out: &mut Vec<u8>) -> Result<(), Bad> {
+    fn ready_made(&mut self, form: Form, rest: &[&[u8]], out: &mut Vec<u8>) -> Result<(), Bad> {
         if rest.len() > LONGEST_BLOCK {
             return Err(TOO_MANY);
         }
         let v = numbers(rest)?;
-        Ok(self.taps.replace(taps::from_coeffs(&v), self.line, out))
+        Ok(self.taps.replace(taps::from_coeffs(&v), form, self.line, out))
     }
 
     fn block(&mut self, word: &[u8], rest: &[&[u8]], out: &mut Vec<u8>) -> Result<(), Bad> {

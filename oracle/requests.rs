@@ -1,10 +1,12 @@
 // Makes request lines of the protocol page, good and bad, for the comparison of two programs. The same arguments make the same
 // lines. First comes a sweep over every word, order, window, number of taps, small block, channel class and short block of the
-// rival's, then lines by chance.
+// rival's, each design and each set of ready-made taps in both forms, then lines by chance.
 // Usage: requests LINES SEED [plain]. `plain` is for a list that is stored: it keeps to printable characters, tabs and line ends,
 // and has fewer and shorter blocks of the rival's.
+mod requests_forms;
 mod requests_rival;
 
+use requests_forms::has_forms;
 use std::io::{BufWriter, Write};
 
 const FUNCTIONS: [&str; 9] = ["sqrt", "ln", "sin", "cos", "tan", "exp", "sinh", "cosh", "pow10"];
@@ -311,6 +313,7 @@ impl<W: Write> Maker<W> {
             0 => Bits(self.dice.pick(&[0.0, -0.0, -1.0, 3e-16, 1e-300, 400.0, 3070.0, 3079.0, 3080.0, f64::INFINITY, f64::NEG_INFINITY, f64::NAN])),
             1 => Bits(self.dice.wild()),
             2 | 3 => Bits(120.0 * self.dice.unit()),
+            4 if self.dice.one_in(2) => Bits(self.extreme_decibels()),
             _ => Digits(self.dice.from(1, 10000), 2),
         }
     }
@@ -329,6 +332,7 @@ impl<W: Write> Maker<W> {
 
     /// One that is accepted.
     fn usual_pass(&mut self) {
+        self.form();
         let kind = self.dice.pick(&PASSES);
         let order = self.dice.from(1, if kind == "bandpass" { 4 } else { 8 });
         let (frequencies, decibels) = (self.usual_frequencies(), Digits(self.dice.from(1, 10000), 2));
@@ -336,6 +340,7 @@ impl<W: Write> Maker<W> {
     }
 
     fn some_pass(&mut self) {
+        self.form();
         let kind = self.dice.pick(&PASSES);
         let order = self.order(if kind == "bandpass" { 4 } else { 8 });
         let (frequencies, decibels) = (self.frequencies(), self.decibels());
@@ -376,6 +381,7 @@ impl<W: Write> Maker<W> {
             _ => self.dice.from(1, 64),
         };
         let window = self.dice.pick(&WINDOWS);
+        self.form();
         self.fir(taps, window)
     }
 
@@ -393,6 +399,7 @@ impl<W: Write> Maker<W> {
             6 => self.dice.from(60, 256),
             _ => self.dice.from(1, 16),
         };
+        self.form();
         self.ready_made(taps)
     }
 
@@ -486,9 +493,11 @@ impl<W: Write> Maker<W> {
     fn run(&mut self) {
         let cascade = self.dice.one_in(2);
         let kinds = if cascade { ["cstep", "cblock", "creset"] } else { ["fstep", "fblock", "freset"] };
-        match self.dice.below(3) {
+        match self.dice.below(10) {
+            0 if cascade => self.not_finite_pass(),
+            0 => self.not_finite_taps(),
             _ if cascade => self.usual_pass(),
-            0 => self.some_ready_made(),
+            1..=3 => self.some_ready_made(),
             _ => self.some_fir(),
         }
         self.finish();
@@ -510,10 +519,11 @@ impl<W: Write> Maker<W> {
 
     fn designs(&mut self) {
         for _ in 0..self.dice.from(1, 15) {
-            match self.dice.below(8) {
+            match self.dice.below(10) {
                 0..=4 => self.some_pass(),
                 5 | 6 => self.some_fir(),
-                _ => self.some_ready_made(),
+                7 => self.some_ready_made(),
+                _ => self.not_finite(),
             }
             self.finish();
         }
@@ -573,7 +583,7 @@ impl<W: Write> Maker<W> {
 /// Bad lines, and lines that draw no answer.
 impl<W: Write> Maker<W> {
     fn malformed(&mut self) {
-        match self.dice.below(20) {
+        match self.dice.below(22) {
             0 => {
                 let word = self.dice.pick(&UNKNOWN);
                 self.word(word);
@@ -581,6 +591,7 @@ impl<W: Write> Maker<W> {
             }
             1 => {
                 let (taps, window) = (self.dice.from(1, 64), self.dice.pick(&BAD_WINDOWS));
+                self.form();
                 self.fir(taps, window)
             }
             2 => self.too_many(),
@@ -595,6 +606,7 @@ impl<W: Write> Maker<W> {
                 }
             }
             8 => self.bad_rival(),
+            9 | 10 => self.bad_raw(),
             _ => self.mutated(),
         }
     }
@@ -612,7 +624,10 @@ impl<W: Write> Maker<W> {
         let kind = self.dice.pick(&["cblock", "fblock"]);
         let (class, rate) = (self.dice.pick(&CLASSES), self.usual_rate());
         match self.dice.below(7) {
-            0 => self.ready_made(taps),
+            0 => {
+                self.form();
+                self.ready_made(taps)
+            }
             1 => self.block(kind, 257, 257, 1000),
             2 => self.block(kind, 2, many, 1000),
             3 => self.j211(class, rate, 257, 1000),
@@ -657,11 +672,12 @@ impl<W: Write> Maker<W> {
 
     /// A good line with one thing changed.
     fn mutated(&mut self) {
-        match self.dice.below(6) {
+        match self.dice.below(7) {
             0 => self.some_pass(),
             1 => self.some_fir(),
-            2 => self.some_j211(),
-            3 => self.some_rival(),
+            2 => self.some_ready_made(),
+            3 => self.some_j211(),
+            4 => self.some_rival(),
             _ => self.good(),
         }
         let starts: Vec<usize> = (0..self.line.len()).filter(|i| self.line[*i] == b' ').collect();
@@ -686,10 +702,18 @@ impl<W: Write> Maker<W> {
 
 /// The sweep.
 impl<W: Write> Maker<W> {
-    fn lines(&mut self, lines: &[&str]) {
+    fn as_they_are(&mut self, lines: &[&str]) {
         for line in lines {
             self.word(line);
             self.end();
+        }
+    }
+
+    /// Designs and ready-made taps in both forms, other lines as they are.
+    fn lines(&mut self, lines: &[&str]) {
+        for line in lines {
+            self.word(line);
+            if has_forms(line) { self.both() } else { self.end() }
         }
     }
 
@@ -717,6 +741,7 @@ impl<W: Write> Maker<W> {
         self.sweep_classes();
         self.sweep_class_errors();
         self.sweep_rivals();
+        self.sweep_forms();
     }
 
     /// Good and bad tokens in several places, ends of lines, comments, too many samples, lines about the longest.
@@ -732,7 +757,7 @@ impl<W: Write> Maker<W> {
         self.lines(&["cblock 257", "fblock 257 x", "cblock 1 1 257", "cblock 1 x 257", "fblock x 1 257", "cblock 0 256", "cblock -1 1 1"]);
         for taps in [256, 257] {
             self.ready_made(taps);
-            self.end();
+            self.both();
         }
         for (start, length) in [("sqrt 4", LONGEST_LINE), ("sqrt 4", LONGEST_LINE + 1), ("#", LONGEST_LINE + 1)] {
             self.lines(&[&format!("{start:length$}")]);
@@ -776,7 +801,7 @@ impl<W: Write> Maker<W> {
                     _ => {}
                 }
                 self.bits(rate);
-                self.end();
+                self.both();
             }
         }
     }
@@ -789,7 +814,7 @@ impl<W: Write> Maker<W> {
             self.whole(taps);
             self.bits(share);
             self.word(WINDOWS[taps as usize % 4]);
-            self.end();
+            self.both();
             self.lines(&["fstep 1", "fstep -2.5"]);
         }
         for window in WINDOWS {
@@ -801,7 +826,7 @@ impl<W: Write> Maker<W> {
         }
         for taps in 0..=70 {
             self.ready_made(taps);
-            self.end();
+            self.both();
             self.lines(&["fstep 3"]);
         }
     }

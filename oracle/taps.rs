@@ -1,4 +1,4 @@
-// The FIR designs and ready-made taps, answered by the published fir.rs.
+// The FIR designs and ready-made taps by the published fir.rs, beside 01's checks; what the forms of 02's Q-3 add is in current.rs.
 use crate::core::filters::fir::{design_fir_lp, FirFilter, WindowType};
 use crate::current::{Design, Filter};
 use crate::elementary::Port;

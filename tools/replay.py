@@ -12,8 +12,10 @@ The list is a text of words, 16 hexadecimal digits each, parted by a space or a 
 requests. Each other line is a request: its kind's number, how many words it asks, how many its answer has, the words
 asked and the answer's words. A float's word is its bits, and any NaN's is 7FF8000000000000.
 
-The words asked are those of the line; a window is its code, a block's output length stands before its samples, a pulse's
-number of samples is left out, and each byte of a rival's block is a word of its own. The answer's words:
+The words asked are those of the line behind its kind. Of a design and of ready-made taps they begin with the form, 0 for the
+default one and 1 for the raw one: a low pass asks form, order, cutoff and rate, a FIR design form, taps, cutoff and window,
+ready-made taps form and the numbers. Both forms are of one kind. A window is its code, a block's output length stands before its
+samples, a pulse's number of samples is left out, and each byte of a rival's block is a word of its own. The answer's words:
 
 - an elementary function: the number
 - a design or ready-made taps: the refusal number or 0, the answer's two counts, which are 0 of a refused one's blank record,
@@ -30,6 +32,7 @@ import struct
 SOURCES = ["examples/replay", "examples/filters"]
 KINDS = ["lowpass", "highpass", "bandpass", "chebyshev1", "chebyshev2", "cstep", "cblock", "creset", "fir", "taps", "fstep", "fblock",
          "freset", "j211", "rival", "sqrt", "sin", "cos", "tan", "exp", "ln", "sinh", "cosh", "pow10"]
+DESIGNS = KINDS[:5] + ["fir", "taps"]
 WINDOWS = ["rectangular", "hamming", "hanning", "blackman"]
 NAN = 0x7FF8000000000000
 LONGEST = 8192
@@ -49,6 +52,7 @@ def numbers(tokens):
 
 
 def asked(kind, rest):
+    """The words asked, but for the form."""
     if kind == "fir":
         return [int(rest[0]), number(rest[1]), WINDOWS.index(rest[2])]
     if kind in ("cblock", "fblock"):
@@ -57,9 +61,16 @@ def asked(kind, rest):
         return [int(rest[0]), number(rest[1])] + numbers(rest[3:])
     if kind == "rival":
         return [int(rest[0]), int(rest[1])] + list(bytes.fromhex(rest[2].strip("-")))
-    if KINDS.index(kind) < 5:
+    if kind in KINDS[:5]:
         return [int(rest[0])] + numbers(rest[1:])
     return numbers(rest)
+
+
+def request(line):
+    """The kind of a line that is a request, and the words asked."""
+    form = int(line[0] == "raw")
+    kind, *rest = line[form:]
+    return kind, ([form] if kind in DESIGNS else []) + asked(kind, rest)
 
 
 def answered(kind, word, rest):
@@ -99,11 +110,12 @@ def pairs(source):
 def main():
     count = {kind: 0 for kind in KINDS}
     rows = []
-    for (kind, *rest), (word, *more) in (pair for source in SOURCES for pair in pairs(source)):
+    for line, (word, *more) in (pair for source in SOURCES for pair in pairs(source)):
         if word == "error":
             continue
-        request, answer = asked(kind, rest), answered(kind, word, more)
-        rows.append([KINDS.index(kind), len(request), len(answer)] + request + answer)
+        kind, words = request(line)
+        answer = answered(kind, word, more)
+        rows.append([KINDS.index(kind), len(words), len(answer)] + words + answer)
         count[kind] += 1
     with open("crates/replay/data/answers", "w") as out:
         for row in [[len(rows)]] + rows:

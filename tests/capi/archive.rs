@@ -2,18 +2,32 @@
 // outside a slice is found.
 use crate::slices::{Call, Function::*, Slices};
 
+/// Declares each function in its default form and in its raw one.
+macro_rules! both_forms {
+    ($($name:ident $raw:ident $arguments:tt;)*) => { extern "C" { $( fn $name $arguments -> u8; fn $raw $arguments -> u8; )* } };
+}
+both_forms! {
+    pulse_design_butterworth_lp pulse_design_butterworth_lp_raw
+        (order: usize, cutoff: f64, rate: f64, numbers: *mut f64, numbers_len: usize, counts: *mut usize, counts_len: usize);
+    pulse_design_butterworth_hp pulse_design_butterworth_hp_raw
+        (order: usize, cutoff: f64, rate: f64, numbers: *mut f64, numbers_len: usize, counts: *mut usize, counts_len: usize);
+    pulse_design_butterworth_bp pulse_design_butterworth_bp_raw
+        (order: usize, low: f64, high: f64, rate: f64, numbers: *mut f64, numbers_len: usize, counts: *mut usize, counts_len: usize);
+    pulse_design_chebyshev1_lp pulse_design_chebyshev1_lp_raw
+        (order: usize, cutoff: f64, decibels: f64, rate: f64, numbers: *mut f64, numbers_len: usize, counts: *mut usize, counts_len: usize);
+    pulse_design_chebyshev2_lp pulse_design_chebyshev2_lp_raw
+        (order: usize, cutoff: f64, decibels: f64, rate: f64, numbers: *mut f64, numbers_len: usize, counts: *mut usize, counts_len: usize);
+    pulse_design_fir_lp pulse_design_fir_lp_raw
+        (taps_asked: usize, cutoff: f64, window: usize, taps: *mut f64, taps_len: usize, samples: *mut f64, samples_len: usize,
+         counts: *mut usize, counts_len: usize);
+    pulse_fir_from_coeffs pulse_fir_from_coeffs_raw
+        (coeffs: *const f64, coeffs_len: usize, taps: *mut f64, taps_len: usize, samples: *mut f64, samples_len: usize, counts: *mut usize, counts_len: usize);
+}
 extern "C" {
-    fn pulse_design_butterworth_lp(order: usize, cutoff: f64, rate: f64, numbers: *mut f64, numbers_len: usize, counts: *mut usize, counts_len: usize) -> u8;
-    fn pulse_design_butterworth_hp(order: usize, cutoff: f64, rate: f64, numbers: *mut f64, numbers_len: usize, counts: *mut usize, counts_len: usize) -> u8;
-    fn pulse_design_butterworth_bp(order: usize, low: f64, high: f64, rate: f64, numbers: *mut f64, numbers_len: usize, counts: *mut usize, counts_len: usize) -> u8;
-    fn pulse_design_chebyshev1_lp(order: usize, cutoff: f64, decibels: f64, rate: f64, numbers: *mut f64, numbers_len: usize, counts: *mut usize, counts_len: usize) -> u8;
-    fn pulse_design_chebyshev2_lp(order: usize, cutoff: f64, decibels: f64, rate: f64, numbers: *mut f64, numbers_len: usize, counts: *mut usize, counts_len: usize) -> u8;
     fn pulse_cascade_step(numbers: *mut f64, numbers_len: usize, counts: *mut usize, counts_len: usize, x: f64, answer: *mut f64, answer_len: usize, clouded: *mut usize, clouded_len: usize) -> u8;
     fn pulse_cascade_block(numbers: *mut f64, numbers_len: usize, counts: *mut usize, counts_len: usize, input: *const f64, input_len: usize, output: *mut f64, output_len: usize, clouded: *mut usize, clouded_len: usize) -> u8;
     fn pulse_cascade_block_in_place(numbers: *mut f64, numbers_len: usize, counts: *mut usize, counts_len: usize, buffer: *mut f64, buffer_len: usize, clouded: *mut usize, clouded_len: usize) -> u8;
     fn pulse_cascade_reset(numbers: *mut f64, numbers_len: usize, counts: *mut usize, counts_len: usize) -> u8;
-    fn pulse_design_fir_lp(taps_asked: usize, cutoff: f64, window: usize, taps: *mut f64, taps_len: usize, samples: *mut f64, samples_len: usize, counts: *mut usize, counts_len: usize) -> u8;
-    fn pulse_fir_from_coeffs(coeffs: *const f64, coeffs_len: usize, taps: *mut f64, taps_len: usize, samples: *mut f64, samples_len: usize, counts: *mut usize, counts_len: usize) -> u8;
     fn pulse_fir_step(taps: *const f64, taps_len: usize, samples: *mut f64, samples_len: usize, counts: *mut usize, counts_len: usize, x: f64, answer: *mut f64, answer_len: usize, clouded: *mut usize, clouded_len: usize) -> u8;
     fn pulse_fir_block(taps: *const f64, taps_len: usize, samples: *mut f64, samples_len: usize, counts: *mut usize, counts_len: usize, input: *const f64, input_len: usize, output: *mut f64, output_len: usize, clouded: *mut usize, clouded_len: usize) -> u8;
     fn pulse_fir_block_in_place(taps: *const f64, taps_len: usize, samples: *mut f64, samples_len: usize, counts: *mut usize, counts_len: usize, buffer: *mut f64, buffer_len: usize, clouded: *mut usize, clouded_len: usize) -> u8;
@@ -80,6 +94,13 @@ impl Lent {
     }
 }
 
+/// The function that a call asks for, of its two forms.
+macro_rules! form {
+    ($call:ident, $default:ident, $raw:ident) => {
+        if $call.raw { $raw } else { $default }
+    };
+}
+
 /// What the archive returns, and whether it stayed within the slices.
 pub fn call(call: &Call, slices: &mut Slices, shift: usize) -> (u8, bool) {
     let mut lent = Lent::new(slices, shift);
@@ -99,11 +120,11 @@ fn cascade(call: &Call, lent: &mut Lent) -> u8 {
     let v = |i: usize| call.floats[i];
     unsafe {
         match call.function {
-            LowPass => pulse_design_butterworth_lp(call.size, v(0), v(1), n, nl, c, cl),
-            HighPass => pulse_design_butterworth_hp(call.size, v(0), v(1), n, nl, c, cl),
-            BandPass => pulse_design_butterworth_bp(call.size, v(0), v(1), v(2), n, nl, c, cl),
-            Chebyshev1 => pulse_design_chebyshev1_lp(call.size, v(0), v(1), v(2), n, nl, c, cl),
-            Chebyshev2 => pulse_design_chebyshev2_lp(call.size, v(0), v(1), v(2), n, nl, c, cl),
+            LowPass => form!(call, pulse_design_butterworth_lp, pulse_design_butterworth_lp_raw)(call.size, v(0), v(1), n, nl, c, cl),
+            HighPass => form!(call, pulse_design_butterworth_hp, pulse_design_butterworth_hp_raw)(call.size, v(0), v(1), n, nl, c, cl),
+            BandPass => form!(call, pulse_design_butterworth_bp, pulse_design_butterworth_bp_raw)(call.size, v(0), v(1), v(2), n, nl, c, cl),
+            Chebyshev1 => form!(call, pulse_design_chebyshev1_lp, pulse_design_chebyshev1_lp_raw)(call.size, v(0), v(1), v(2), n, nl, c, cl),
+            Chebyshev2 => form!(call, pulse_design_chebyshev2_lp, pulse_design_chebyshev2_lp_raw)(call.size, v(0), v(1), v(2), n, nl, c, cl),
             CascadeStep => pulse_cascade_step(n, nl, c, cl, call.x, answer.start(), answer.len(), clouded.start(), clouded.len()),
             CascadeBlock => pulse_cascade_block(n, nl, c, cl, input.start(), input.len(), output.start(), output.len(), clouded.start(), clouded.len()),
             CascadeInPlace => pulse_cascade_block_in_place(n, nl, c, cl, buffer.start(), buffer.len(), clouded.start(), clouded.len()),
@@ -118,8 +139,8 @@ fn fir(call: &Call, lent: &mut Lent) -> u8 {
     let (t, tl, s, sl, c, cl) = (taps.start(), taps.len(), samples.start(), samples.len(), counts.start(), counts.len());
     unsafe {
         match call.function {
-            FirDesign => pulse_design_fir_lp(call.size, call.floats[0], call.window, t, tl, s, sl, c, cl),
-            FirCoeffs => pulse_fir_from_coeffs(input.start(), input.len(), t, tl, s, sl, c, cl),
+            FirDesign => form!(call, pulse_design_fir_lp, pulse_design_fir_lp_raw)(call.size, call.floats[0], call.window, t, tl, s, sl, c, cl),
+            FirCoeffs => form!(call, pulse_fir_from_coeffs, pulse_fir_from_coeffs_raw)(input.start(), input.len(), t, tl, s, sl, c, cl),
             FirStep => pulse_fir_step(t, tl, s, sl, c, cl, call.x, answer.start(), answer.len(), clouded.start(), clouded.len()),
             FirBlock => pulse_fir_block(t, tl, s, sl, c, cl, input.start(), input.len(), output.start(), output.len(), clouded.start(), clouded.len()),
             FirInPlace => pulse_fir_block_in_place(t, tl, s, sl, c, cl, buffer.start(), buffer.len(), clouded.start(), clouded.len()),

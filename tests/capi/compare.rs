@@ -1,7 +1,8 @@
 // Compares the archive of the C interface with the published Rust, call by call: the same call and slices to the archive
 // (archive.rs), and to the designs of the published Rust (published.rs) and a model of running and of refusals (model.rs),
 // beside which the published filters run; a whole pulse to the oracle's channel classes (j211.rs), and a channel of a block to its
-// reading of the rival's blocks (rival.rs). Returned numbers, counts and every place of every slice must agree: bits, a NaN matching
+// reading of the rival's blocks (rival.rs). A default form is beside the published Rust and 02's rule of 25, a raw form beside the
+// published Rust alone. Returned numbers, counts and every place of every slice must agree: bits, a NaN matching
 // any NaN; after a refusal, and where a call may not write, the very bits. Stops at the first difference.
 // Usage: compare [CALLS [SEED]]. tests/capi/run builds it as a library and links it with the archive, and once more with a
 // deliberately wrong one (wrong.c).
@@ -53,20 +54,27 @@ fn refusal(error: FilterError) -> u8 {
     }
 }
 
-/// The numbers that each function may return.
-fn numbers(function: Function) -> &'static [u8] {
-    match function {
-        LowPass | HighPass | BandPass => &[0, 1, 2, 3, 13],
-        Chebyshev1 | Chebyshev2 => &[0, 1, 2, 3, 4, 13],
-        FirDesign => &[0, 1, 2, 13],
-        FirCoeffs => &[0, 1, 13],
+/// The functions in their forms: all in the default one, and those that have a raw one in that too.
+fn forms() -> impl Iterator<Item = (Function, bool)> {
+    let raw = FUNCTIONS.into_iter().filter(|f| f.is_design()).map(|f| (f, true));
+    FUNCTIONS.into_iter().map(|f| (f, false)).chain(raw)
+}
+
+/// The numbers that each function may return. A raw form never returns 25.
+fn numbers(function: Function, raw: bool) -> impl Iterator<Item = u8> {
+    let all: &[u8] = match function {
+        LowPass | HighPass | BandPass => &[0, 1, 2, 3, 13, 25],
+        Chebyshev1 | Chebyshev2 => &[0, 1, 2, 3, 4, 13, 25],
+        FirDesign => &[0, 1, 2, 13, 25],
+        FirCoeffs => &[0, 1, 13, 25],
         CascadeStep | CascadeInPlace | CascadeReset => &[0, 11, 13],
         CascadeBlock => &[0, 5, 11, 13],
         FirStep | FirInPlace | FirReset => &[0, 12, 13],
         FirBlock => &[0, 5, 12, 13],
         J211 => &[0, 2, 3, 21],
         ReadChannel => &[0, 5, 13, 22, 23, 24],
-    }
+    };
+    all.iter().copied().filter(move |n| !raw || *n != 25)
 }
 
 /// What the call of a channel returns, with its output and its count in the slices.
@@ -86,8 +94,10 @@ struct Session {
     state: Slices,
     filters: Filters,
     calls: u64,
-    /// How often each function returned each number.
-    tally: [[u64; 25]; 17],
+    /// How often each function returned each number, in its default form and in its raw one.
+    tally: [[[u64; 26]; 17]; 2],
+    /// How often a raw form made coefficients that are not all finite, of each function.
+    not_finite: [u64; 17],
     /// Answers compared, and how many of them were a NaN.
     answers: [u64; 2],
     /// Which lengths ran, of each of BLOCKS.
@@ -96,9 +106,9 @@ struct Session {
 
 impl Session {
     fn new(seed: u64) -> Session {
-        let tally = [[0; 25]; 17];
+        let (tally, not_finite) = ([[[0; 26]; 17]; 2], [0; 17]);
         let lengths = [[false; LONGEST_IN_PLACE + 1]; 6];
-        Session { dice: Dice(seed), state: Slices::blank(), filters: Filters::default(), calls: 0, tally, answers: [0; 2], lengths }
+        Session { dice: Dice(seed), state: Slices::blank(), filters: Filters::default(), calls: 0, tally, not_finite, answers: [0; 2], lengths }
     }
 
     /// The number and the slices that the call must give. A live call is one on the current state: the published filters
@@ -149,9 +159,13 @@ impl Session {
 
     fn count(&mut self, call: &Call, number: u8, given: &Slices) {
         self.calls += 1;
-        self.tally[call.function as usize][number as usize] += 1;
+        self.tally[call.raw as usize][call.function as usize][number as usize] += 1;
         if number != 0 {
             return;
+        }
+        if call.raw {
+            let places = if call.function.is_cascade() { &given.numbers } else { &given.taps };
+            self.not_finite[call.function as usize] += !places.iter().all(|x| x.is_finite()) as u64;
         }
         let answers = match () {
             _ if call.function.is_step() => &given.answer[..],
@@ -233,13 +247,15 @@ impl Session {
         }
     }
 
-    /// A function and a number that never came, or a length of a block, a pulse or a channel that never ran.
+    /// A form of a function and a number that never came, coefficients that are not finite and that no raw form made, or a length
+    /// of a block, a pulse or a channel that never ran.
     fn missing(&self) -> Option<String> {
-        for function in FUNCTIONS {
-            for number in numbers(function) {
-                if self.tally[function as usize][*number as usize] == 0 {
-                    return Some(format!("{function:?} never returned {number}"));
-                }
+        for (function, raw) in forms() {
+            if let Some(number) = numbers(function, raw).find(|n| self.tally[raw as usize][function as usize][*n as usize] == 0) {
+                return Some(format!("{function:?}, raw: {raw}, never returned {number}"));
+            }
+            if raw && self.not_finite[function as usize] == 0 {
+                return Some(format!("{function:?}, raw, never made a coefficient that is not finite"));
             }
         }
         for ((function, longest), ran) in BLOCKS.iter().zip(&self.lengths) {
@@ -251,9 +267,13 @@ impl Session {
     }
 
     fn report(&self) {
-        for function in FUNCTIONS {
-            let row: Vec<String> = numbers(function).iter().map(|n| format!("{n}: {}", self.tally[function as usize][*n as usize])).collect();
-            println!("{:<16}{}", format!("{function:?}"), row.join(", "));
+        for (function, raw) in forms() {
+            let tally = &self.tally[raw as usize][function as usize];
+            let mut row: Vec<String> = numbers(function, raw).map(|n| format!("{n}: {}", tally[n as usize])).collect();
+            if raw {
+                row.push(format!("not finite: {}", self.not_finite[function as usize]));
+            }
+            println!("{:<16}{}", format!("{function:?}{}", if raw { ", raw" } else { "" }), row.join(", "));
         }
         println!("{} answers, {} of them a NaN", self.answers[0], self.answers[1]);
     }

@@ -1,8 +1,8 @@
 /* An example of the C interface: a Butterworth low pass of order 4 and a FIR of 31 Hamming taps, each designed, fed a step
  * and a block, and reset; a whole pulse through channel class 60; a channel of a block of the rival recorder, read and put
- * through the same class; then a design and a block that are refused. Answers are printed as bit patterns, in the form of
- * docs/PROTOCOL.md, so that the oracle and the program `sheet` answer the lines of example.requests with the same output:
- * example.answers. */
+ * through the same class; then a block and a design that are refused; and a single Hamming tap, which is a NaN: refused by the
+ * default form of the design, and made by the raw one. Answers are printed as bit patterns, in the form of docs/PROTOCOL.md, so
+ * that the oracle and the program `sheet` answer the lines of example.requests with the same output: example.answers. */
 #include "pulse.h"
 #include <inttypes.h>
 #include <stdio.h>
@@ -19,11 +19,15 @@ static const double pulse[6] = {0.5, 20.25, -3.75, 0.125, -0.5, 1.0};
 static const uint8_t recorded[30] = {6, 2, 6, 0, 0x52, 0x01, 0x05, 0x00, 0x00, 0x00, 0xFB, 0xFF, 0x78, 0x00, 0x11, 0x00, 0x52, 0x03,
                                      0xD4, 0xFE, 0xB0, 0x04, 0x02, 0x00, 0x90, 0x01, 0x00, 0x00, 0xDD, 0xFF};
 
+/* A NaN may be any NaN, and is printed by its name. */
 static void print_bits(const double *x, size_t n) {
     for (size_t i = 0; i < n; i++) {
         uint64_t bits;
         memcpy(&bits, x + i, sizeof bits);
-        printf(" %016" PRIX64, bits);
+        if (x[i] == x[i])
+            printf(" %016" PRIX64, bits);
+        else
+            printf(" NaN");
     }
 }
 
@@ -67,10 +71,7 @@ static void cascade(void) {
     printf(refusal ? "refused %u\n" : "done\n", refusal);
 }
 
-static void fir(void) {
-    double answer, output[6] = {1000, 1001, 1002, 1003, 1004, 1005};
-    size_t clouded;
-    uint8_t refusal = pulse_design_fir_lp(31, 0.125, PULSE_HAMMING, taps, PULSE_TAPS_LEN, samples, PULSE_SAMPLES_LEN, fir_counts, PULSE_FIR_COUNTS_LEN);
+static void print_taps(uint8_t refusal) {
     if (refusal) {
         printf("refused %u\n", refusal);
         return;
@@ -78,6 +79,15 @@ static void fir(void) {
     printf("taps %zu %zu", fir_counts[PULSE_LENGTH], fir_counts[PULSE_WINDOW]);
     print_bits(taps, fir_counts[PULSE_LENGTH]);
     printf("\n");
+}
+
+static void fir(void) {
+    double answer, output[6] = {1000, 1001, 1002, 1003, 1004, 1005};
+    size_t clouded;
+    uint8_t refusal = pulse_design_fir_lp(31, 0.125, PULSE_HAMMING, taps, PULSE_TAPS_LEN, samples, PULSE_SAMPLES_LEN, fir_counts, PULSE_FIR_COUNTS_LEN);
+    print_taps(refusal);
+    if (refusal)
+        return;
     refusal = pulse_fir_step(taps, PULSE_TAPS_LEN, samples, PULSE_SAMPLES_LEN, fir_counts, PULSE_FIR_COUNTS_LEN, 1, &answer, 1, &clouded, 1);
     print_step(refusal, &answer, clouded);
     refusal = pulse_fir_block(taps, PULSE_TAPS_LEN, samples, PULSE_SAMPLES_LEN, fir_counts, PULSE_FIR_COUNTS_LEN, pulse, 6, output, 6, &clouded, 1);
@@ -128,11 +138,18 @@ static void refused(void) {
     printf("refused %u\n", refusal);
 }
 
+/* A refused design leaves the filter as it is, and so the release sheet without a NaN; a sweep over designs asks for the raw form. */
+static void single_tap(void) {
+    print_taps(pulse_design_fir_lp(1, 0.25, PULSE_HAMMING, taps, PULSE_TAPS_LEN, samples, PULSE_SAMPLES_LEN, fir_counts, PULSE_FIR_COUNTS_LEN));
+    print_taps(pulse_design_fir_lp_raw(1, 0.25, PULSE_HAMMING, taps, PULSE_TAPS_LEN, samples, PULSE_SAMPLES_LEN, fir_counts, PULSE_FIR_COUNTS_LEN));
+}
+
 int main(void) {
     cascade();
     fir();
     whole_pulse();
     recorded_channel();
     refused();
+    single_tap();
     return 0;
 }

@@ -81,6 +81,19 @@ impl Dice {
         }
         0.01 + 60.0 * self.unit()
     }
+    /// The floats of a cascade whose coefficients are often not all finite: a cutoff so large that PI times it overflows, a band
+    /// about as narrow as where the poles of some sections are lost, decibels whose power is 1 or overflows.
+    fn extreme_floats(&mut self, function: Function) -> Vec<f64> {
+        let (large, rate) = (f64::MAX * (0.32 + 0.17 * self.unit()), self.pick(&[f64::MAX, f64::INFINITY]));
+        let low = 0.2 + 0.1 * self.unit();
+        match function {
+            BandPass if self.one_in(4) => vec![large * self.unit(), large, rate],
+            BandPass => vec![low, low * (1.0001 + 0.0001 * self.unit()), 1.0],
+            Chebyshev1 | Chebyshev2 if self.one_in(4) => vec![large, 3.0, rate],
+            Chebyshev1 | Chebyshev2 => vec![low, self.pick(&[5e-324, 1e-17, 2e-16, 3090.0, 7000.0, f64::INFINITY]), 1.0],
+            _ => vec![large, rate],
+        }
+    }
     fn size(&mut self, most: usize) -> usize {
         if self.one_in(8) {
             return self.pick(&[0, most + 1, most + 2, 100, 256 + most, (1 << 32) + most, 1 << 63, usize::MAX]);
@@ -90,6 +103,9 @@ impl Dice {
 
     /// The floats of a design, in the order of its arguments.
     fn floats(&mut self, function: Function) -> Vec<f64> {
+        if function.is_cascade_design() && self.one_in(4) {
+            return self.extreme_floats(function);
+        }
         let rate = self.rate();
         let base = if rate.is_finite() && rate > 0.0 { rate } else { 1000.0 };
         let cutoff = self.cutoff(base);
@@ -138,7 +154,7 @@ impl Dice {
     fn pulse_call(&mut self, samples: usize, s: &mut Slices) -> Call {
         s.buffer = self.pulse(samples);
         let class = self.class();
-        Call { function: J211, size: class, window: 0, floats: vec![self.class_rate(class)], x: 0.0 }
+        Call { function: J211, raw: false, size: class, window: 0, floats: vec![self.class_rate(class)], x: 0.0 }
     }
 
     /// Bytes by chance, some codes among them about a limit. A code starts at an even place.
@@ -176,11 +192,23 @@ impl Dice {
         let (channels, more) = (1 + self.below(8), self.pick(&[0, 0, 0, 1, 2, 15]));
         s.block = self.block(channels, samples, more);
         s.output = self.output(samples);
-        Call { function: ReadChannel, size: self.below(channels), window: 0, floats: vec![], x: 0.0 }
+        Call { function: ReadChannel, raw: false, size: self.below(channels), window: 0, floats: vec![], x: 0.0 }
     }
 
-    /// A call of the function, its own slices among the given ones. A block, in place or not, a pulse or a channel has `samples`
-    /// samples.
+    /// Ready-made taps, at times none or too many; at times the first, the last or any is not finite, or the largest number.
+    fn ready_made(&mut self) -> Vec<f64> {
+        let n = if self.one_in(8) { self.pick(&[0, 65, 66, 100, 300]) } else { 1 + self.below(64) };
+        let mut taps = self.samples(n);
+        if n > 0 && self.one_in(4) {
+            let any = self.below(n);
+            let place = self.pick(&[0, n - 1, any]);
+            taps[place] = self.pick(&[f64::INFINITY, f64::NEG_INFINITY, f64::NAN, f64::from_bits(0xFFF4_0000_0000_1234), f64::MAX]);
+        }
+        taps
+    }
+
+    /// A call of the function, its own slices among the given ones, a design in either form. A block, in place or not, a pulse or a
+    /// channel has `samples` samples.
     pub fn call(&mut self, function: Function, samples: usize, s: &mut Slices) -> Call {
         let most = match function {
             BandPass => 4,
@@ -203,10 +231,11 @@ impl Dice {
             s.input = self.samples(samples);
             s.output = self.output(samples);
         } else if function == FirCoeffs {
-            let n = if self.one_in(8) { self.pick(&[0, 65, 66, 100, 300]) } else { 1 + self.below(64) };
-            s.input = self.samples(n);
+            s.input = self.ready_made();
         }
-        Call { function, size: self.size(most), window: self.below(4), floats: self.floats(function), x: self.sample() }
+        let size = if function == FirDesign && self.one_in(8) { 1 } else { self.size(most) };
+        let raw = function.is_design() && self.one_in(2);
+        Call { function, raw, size, window: self.below(4), floats: self.floats(function), x: self.sample() }
     }
 
     /// A state that no design made, and that is accepted: any numbers, parts that are not used included.

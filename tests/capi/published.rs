@@ -5,6 +5,7 @@ use crate::current::{Design, Filter};
 use crate::slices::{same, Call, Function::*, Slices};
 use crate::{taps, text};
 
+const NON_FINITE_COEFFICIENT: u8 = 25;
 const WINDOWS: [&[u8]; 4] = [b"rectangular", b"hamming", b"hanning", b"blackman"];
 
 /// The published filters that the current states came from; none where a state was not designed.
@@ -27,7 +28,8 @@ fn asked(call: &Call, s: &Slices) -> Design {
     }
 }
 
-/// A design whose call is good: 0 and the filter, with the state in the slices; or the number.
+/// A design whose call is good: 0 and the filter, with the state in the slices; or the number. The default form is refused by 25
+/// where the coefficients are not all finite, after 01's checks: 02's Q-3.
 pub fn design(call: &Call, s: &mut Slices) -> Result<Box<dyn Filter>, u8> {
     let design = asked(call, s);
     if let Some(rust) = design.rust {
@@ -40,6 +42,9 @@ pub fn design(call: &Call, s: &mut Slices) -> Result<Box<dyn Filter>, u8> {
     let tokens = text::tokens(&answer);
     let counts = [1, 2].map(|i| text::count(tokens[i]).unwrap());
     let floats: Vec<f64> = tokens[3..].iter().map(|t| text::number(t).unwrap()).collect();
+    if !call.raw && !floats.iter().all(|x| x.is_finite()) {
+        return Err(NON_FINITE_COEFFICIENT);
+    }
     if call.function.is_cascade() {
         lay_cascade(counts, &floats, s);
     } else {

@@ -12,6 +12,7 @@
 
 enum { LOW_PASS, HIGH_PASS, BAND_PASS, CHEBYSHEV1, CHEBYSHEV2, CASCADE_STEP, CASCADE_BLOCK, CASCADE_RESET, FIR, TAPS, FIR_STEP, FIR_BLOCK, FIR_RESET, J211,
        RIVAL };
+enum { DEFAULT, RAW }; /* the form of a design or of ready-made taps, its first word */
 enum { MOST = 4096, FIRST_OUTPUT = 1000 }; /* a line of the protocol has at most 8192 bytes, so a block fewer than 4096 */
 
 struct state {
@@ -28,6 +29,8 @@ static uint64_t asked[MOST], expected[MOST], given[MOST];
 static double floats[MOST], output[MOST], buffer[MOST];
 static uint8_t bytes[MOST];
 
+static int is_design(uint64_t kind) { return kind < CASCADE_STEP || kind == FIR || kind == TAPS; }
+
 static double number(uint64_t word) {
     double x;
     memcpy(&x, &word, sizeof x);
@@ -41,16 +44,31 @@ static uint64_t word(double x) {
     return x == x ? bits : UINT64_C(0x7FF8000000000000);
 }
 
+/* The designs of a cascade by their kinds, each in its default form and its raw one. */
+typedef uint8_t two_floats(size_t, double, double, double *, size_t, size_t *, size_t);
+typedef uint8_t three_floats(size_t, double, double, double, double *, size_t, size_t *, size_t);
+static two_floats *const of_two_floats[][2] = {
+    {pulse_design_butterworth_lp, pulse_design_butterworth_lp_raw}, {pulse_design_butterworth_hp, pulse_design_butterworth_hp_raw}};
+static three_floats *const of_three_floats[][2] = {
+    {pulse_design_butterworth_bp, pulse_design_butterworth_bp_raw},
+    {pulse_design_chebyshev1_lp, pulse_design_chebyshev1_lp_raw},
+    {pulse_design_chebyshev2_lp, pulse_design_chebyshev2_lp_raw}};
+
 static uint8_t design(uint64_t kind) {
-    double a = number(asked[1]), b = number(asked[2]), c = number(asked[3]);
-    switch (kind) {
-    case LOW_PASS: return pulse_design_butterworth_lp(asked[0], a, b, CASCADE);
-    case HIGH_PASS: return pulse_design_butterworth_hp(asked[0], a, b, CASCADE);
-    case BAND_PASS: return pulse_design_butterworth_bp(asked[0], a, b, c, CASCADE);
-    case CHEBYSHEV1: return pulse_design_chebyshev1_lp(asked[0], a, b, c, CASCADE);
-    case CHEBYSHEV2: return pulse_design_chebyshev2_lp(asked[0], a, b, c, CASCADE);
-    default: return pulse_design_fir_lp(asked[0], a, asked[2], TAP_RECORD);
-    }
+    uint64_t form = asked[0];
+    double a = number(asked[2]), b = number(asked[3]), c = number(asked[4]);
+    if (kind < BAND_PASS)
+        return of_two_floats[kind][form](asked[1], a, b, CASCADE);
+    if (kind < CASCADE_STEP)
+        return of_three_floats[kind - BAND_PASS][form](asked[1], a, b, c, CASCADE);
+    return (form == RAW ? pulse_design_fir_lp_raw : pulse_design_fir_lp)(asked[1], a, asked[3], TAP_RECORD);
+}
+
+/* Ready-made taps: the words behind the form. */
+static uint8_t ready_made(size_t words) {
+    for (size_t i = 1; i < words; i++)
+        floats[i - 1] = number(asked[i]);
+    return (asked[0] == RAW ? pulse_fir_from_coeffs_raw : pulse_fir_from_coeffs)(floats, words - 1, TAP_RECORD);
 }
 
 static size_t put(size_t n, const double *from, size_t count) {
@@ -192,15 +210,11 @@ static const char *called(uint64_t kind, size_t words, size_t *n) {
     case CASCADE_RESET: case FIR_RESET: *n = reset(kind, &refusal); break;
     case J211: *n = pulse(words, &refusal, &left); break;
     case RIVAL: *n = channel(words, &refusal, &left); break;
-    case TAPS:
-        for (size_t i = 0; i < words; i++)
-            floats[i] = number(asked[i]);
-        refusal = pulse_fir_from_coeffs(floats, words, TAP_RECORD);
-        break;
+    case TAPS: refusal = ready_made(words); break;
     default: refusal = design(kind);
     }
     int kept = !refusal || memcmp(&before, &now, sizeof now) == 0;
-    if (kind < CASCADE_STEP || kind == FIR || kind == TAPS)
+    if (is_design(kind))
         *n = designed(kind, refusal);
     return !kept ? "refused, and the state is changed" : !in_place ? "something else in place" : !left ? "a place that the call leaves is changed" : 0;
 }
@@ -212,15 +226,19 @@ static int read_words(FILE *list, uint64_t *words, size_t count) {
     return 1;
 }
 
-/* Whether a channel's answer has as many words as its output asks for. */
-static int is_channel(const uint64_t *head) { return head[1] >= 2 && head[2] >= 2 && asked[1] == head[2] - 2; }
+/* Whether a channel's answer has as many words as its output asks for, and a design's first word is a form. */
+static int is_request(const uint64_t *head) {
+    if (head[0] == RIVAL)
+        return head[1] >= 2 && head[2] >= 2 && asked[1] == head[2] - 2;
+    return !is_design(head[0]) || (head[1] >= 1 && asked[0] <= RAW);
+}
 
 /* Reads a request and replays it: 1 where it agrees, 0 where it is passed over, -1 where it differs or cannot be read. */
 static int request(FILE *list, size_t line) {
     uint64_t head[3];
     size_t n = 0;
     if (!read_words(list, head, 3) || head[1] > MOST || head[2] > MOST || !read_words(list, asked, head[1]) || !read_words(list, expected, head[2])
-        || (head[0] == RIVAL && !is_channel(head))) {
+        || !is_request(head)) {
         printf("request %zu of the list cannot be read\n", line);
         return -1;
     }

@@ -33,10 +33,12 @@ fn places(length: u64) -> Vec<f64> {
     (0..length as usize).map(|i| (FIRST_OUTPUT + i) as f64).collect()
 }
 
-/// The call, with the input and the output that it brings put into the slices.
+/// The call, with the input and the output that it brings put into the slices. The first word of a design, or of ready-made
+/// taps, is its form: 0 the default one, 1 the raw one.
 fn prepared(request: &Request, slices: &mut Slices) -> Call {
-    let (function, asked) = (request.function, request.asked);
-    let mut call = Call { function, size: 0, window: 0, floats: vec![], x: 0.0 };
+    let function = request.function;
+    let (form, asked) = request.asked.split_at(function.is_design() as usize);
+    let mut call = Call { function, raw: form == [1], size: 0, window: 0, floats: vec![], x: 0.0 };
     if function.is_step() {
         call.x = f64::from_bits(asked[0]);
     } else if function.is_block() {
@@ -165,6 +167,9 @@ fn replay_all(text: &str) -> Result<usize, String> {
     for line in 1..=*count {
         let (kind, asked, expected, behind) = next(rest).ok_or(format!("request {line} of the list cannot be read"))?;
         if let Some(function) = FUNCTIONS[..=Function::ReadChannel as usize].get(kind as usize) {
+            if function.is_design() && !asked.first().is_some_and(|form| *form <= 1) {
+                return Err(format!("request {line} of the list has no form"));
+            }
             let request = Request { function: *function, asked, expected };
             replay(&request, &mut slices).map_err(|wrong| format!("request {line}, {function:?}: {wrong}"))?;
             agree += 1;

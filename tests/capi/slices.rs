@@ -50,10 +50,11 @@ impl Function {
 }
 
 /// The arguments that are not slices: an order, a number of taps, a channel class or a channel, a window code, a design's floats
-/// or the rate of a pulse, a step's sample.
+/// or the rate of a pulse, a step's sample. A design, or ready-made taps, has two forms: `raw`, or else the default one.
 #[derive(Clone, Debug)]
 pub struct Call {
     pub function: Function,
+    pub raw: bool,
     pub size: usize,
     pub window: usize,
     pub floats: Vec<f64>,

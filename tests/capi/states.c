@@ -1,7 +1,8 @@
 /* Tries what the stored answers of the oracle cannot have: slices of wrong lengths, damaged states, several reasons for a refusal
- * at once, every place of a state after a call, blocks in place beside blocks over two arrays, whole pulses of any length beside
- * their recurrence, and channels of the rival recorder's blocks, of up to 65,535 samples, beside a plain reading. The expected
- * numbers are written here from include/pulse.h. After each refusal all slices, and the guard places behind them, must be bit
+ * at once, every place of a state after a call, default forms beside raw ones, a coefficient that is not finite at every place of
+ * ready-made taps, blocks in place beside blocks over two arrays, whole pulses of any length beside their recurrence, and channels
+ * of the rival recorder's blocks, of up to 65,535 samples, beside a plain reading. The expected numbers are written here from
+ * include/pulse.h. After each refusal all slices, and the guard places behind them, must be bit
  * for bit as before, also where they hold NaNs of any bits.
  * Usage: states. Status 0: all as expected; 1: a difference, which is shown, and the parts behind it are not tried. */
 #include "pulse.h"
@@ -10,13 +11,15 @@
 #include <stdio.h>
 #include <string.h>
 
-/* J211, which has no filter's state, comes last. */
-enum function { LOW_PASS, HIGH_PASS, BAND_PASS, CHEBYSHEV1, CHEBYSHEV2, CASCADE_STEP, CASCADE_BLOCK, CASCADE_IN_PLACE, CASCADE_RESET,
-                FIR_DESIGN, FIR_COEFFS, FIR_STEP, FIR_BLOCK, FIR_IN_PLACE, FIR_RESET, J211, FUNCTIONS };
+/* The raw forms stand behind the default ones, in their order. J211, which has no filter's state, comes last. */
+enum function { LOW_PASS, HIGH_PASS, BAND_PASS, CHEBYSHEV1, CHEBYSHEV2, LOW_PASS_RAW, HIGH_PASS_RAW, BAND_PASS_RAW, CHEBYSHEV1_RAW, CHEBYSHEV2_RAW,
+                CASCADE_STEP, CASCADE_BLOCK, CASCADE_IN_PLACE, CASCADE_RESET, FIR_DESIGN, FIR_COEFFS, FIR_DESIGN_RAW, FIR_COEFFS_RAW,
+                FIR_STEP, FIR_BLOCK, FIR_IN_PLACE, FIR_RESET, J211, FUNCTIONS };
 static const char *const names[FUNCTIONS] = {
-    "butterworth_lp", "butterworth_hp", "butterworth_bp", "chebyshev1_lp", "chebyshev2_lp", "cascade_step", "cascade_block",
-    "cascade_block_in_place", "cascade_reset", "fir_lp", "fir_from_coeffs", "fir_step", "fir_block", "fir_block_in_place", "fir_reset",
-    "j211"};
+    "butterworth_lp", "butterworth_hp", "butterworth_bp", "chebyshev1_lp", "chebyshev2_lp", "butterworth_lp_raw", "butterworth_hp_raw",
+    "butterworth_bp_raw", "chebyshev1_lp_raw", "chebyshev2_lp_raw", "cascade_step", "cascade_block", "cascade_block_in_place",
+    "cascade_reset", "fir_lp", "fir_from_coeffs", "fir_lp_raw", "fir_from_coeffs_raw", "fir_step", "fir_block", "fir_block_in_place",
+    "fir_reset", "j211"};
 
 /* The slices of a call with room behind each, their lengths, and the other arguments. */
 enum slice { NUMBERS, COUNTS, TAPS, SAMPLES, FIR_COUNTS, INPUT, OUTPUT, BUFFER, ANSWER, CLOUDED, SLICES };
@@ -91,12 +94,19 @@ static uint8_t call(enum function f, struct lent *s) {
     case BAND_PASS: return pulse_design_butterworth_bp(s->size, s->cutoff, s->high, s->rate, CASCADE);
     case CHEBYSHEV1: return pulse_design_chebyshev1_lp(s->size, s->cutoff, s->decibels, s->rate, CASCADE);
     case CHEBYSHEV2: return pulse_design_chebyshev2_lp(s->size, s->cutoff, s->decibels, s->rate, CASCADE);
+    case LOW_PASS_RAW: return pulse_design_butterworth_lp_raw(s->size, s->cutoff, s->rate, CASCADE);
+    case HIGH_PASS_RAW: return pulse_design_butterworth_hp_raw(s->size, s->cutoff, s->rate, CASCADE);
+    case BAND_PASS_RAW: return pulse_design_butterworth_bp_raw(s->size, s->cutoff, s->high, s->rate, CASCADE);
+    case CHEBYSHEV1_RAW: return pulse_design_chebyshev1_lp_raw(s->size, s->cutoff, s->decibels, s->rate, CASCADE);
+    case CHEBYSHEV2_RAW: return pulse_design_chebyshev2_lp_raw(s->size, s->cutoff, s->decibels, s->rate, CASCADE);
     case CASCADE_STEP: return pulse_cascade_step(CASCADE, s->x, THE_ANSWER);
     case CASCADE_BLOCK: return pulse_cascade_block(CASCADE, THE_INPUT, THE_OUTPUT);
     case CASCADE_IN_PLACE: return pulse_cascade_block_in_place(CASCADE, THE_BUFFER);
     case CASCADE_RESET: return pulse_cascade_reset(CASCADE);
     case FIR_DESIGN: return pulse_design_fir_lp(s->size, s->cutoff, s->window, TAP_RECORD);
     case FIR_COEFFS: return pulse_fir_from_coeffs(THE_INPUT, TAP_RECORD);
+    case FIR_DESIGN_RAW: return pulse_design_fir_lp_raw(s->size, s->cutoff, s->window, TAP_RECORD);
+    case FIR_COEFFS_RAW: return pulse_fir_from_coeffs_raw(THE_INPUT, TAP_RECORD);
     case FIR_STEP: return pulse_fir_step(TAP_RECORD, s->x, THE_ANSWER);
     case FIR_BLOCK: return pulse_fir_block(TAP_RECORD, THE_INPUT, THE_OUTPUT);
     case FIR_IN_PLACE: return pulse_fir_block_in_place(TAP_RECORD, THE_BUFFER);
@@ -123,26 +133,41 @@ static void try_call(enum function f, struct lent s, uint8_t number, const char 
         fail("something is changed by a refused call", names[f], number, given);
 }
 
+/* NaNs in the slices of a filter's state, and in all others. */
+static void fill_state(struct lent *s) {
+    fill_with_nans(s->numbers, 40);
+    fill_with_nans(s->taps, 80);
+    fill_with_nans(s->samples, 80);
+}
+
+static void fill_others(struct lent *s) {
+    fill_with_nans(s->input, 80);
+    fill_with_nans(s->output, 80);
+    fill_with_nans(s->buffer, 80);
+    fill_with_nans(s->answer, 4);
+}
+
 /* The call must return the number and, where that is not 0, change nothing, whatever numbers the slices hold. */
 static void expect(enum function f, struct lent s, uint8_t number, const char *what) {
     try_call(f, s, number, what);
     if (!number)
         return;
-    fill_with_nans(s.numbers, 40);
-    fill_with_nans(s.taps, 80);
-    fill_with_nans(s.samples, 80);
-    fill_with_nans(s.input, 80);
-    fill_with_nans(s.output, 80);
-    fill_with_nans(s.buffer, 80);
-    fill_with_nans(s.answer, 4);
+    fill_state(&s);
+    fill_others(&s);
     try_call(f, s, number, what);
 }
 
 static int is_cascade(enum function f) { return f <= CASCADE_RESET; }
-static int is_design(enum function f) { return f <= CHEBYSHEV2 || f == FIR_DESIGN || f == FIR_COEFFS; }
+static int is_design(enum function f) { return f < CASCADE_STEP || (f >= FIR_DESIGN && f < FIR_STEP); }
 static int is_block(enum function f) { return f == CASCADE_BLOCK || f == FIR_BLOCK; }
 static int is_in_place(enum function f) { return f == CASCADE_IN_PLACE || f == FIR_IN_PLACE; }
 static int is_step(enum function f) { return f == CASCADE_STEP || f == FIR_STEP; }
+
+/* How many default forms stand before their raw forms. */
+static int forms(enum function f) { return is_cascade(f) ? LOW_PASS_RAW - LOW_PASS : FIR_DESIGN_RAW - FIR_DESIGN; }
+static int is_raw(enum function f) { return (f >= LOW_PASS_RAW && f < CASCADE_STEP) || (f >= FIR_DESIGN_RAW && f < FIR_STEP); }
+static enum function raw_of(enum function f) { return f + forms(f); }
+static enum function default_of(enum function f) { return is_raw(f) ? f - forms(f) : f; }
 
 /* Whether 13 watches the length of the slice. */
 static int is_watched(enum function f, enum slice slice) {
@@ -224,51 +249,72 @@ static void damaged_states(void) {
 }
 
 /* The designs' refusals, each before those that 01 puts behind it. */
-static void refused_designs(void) {
-    for (int f = LOW_PASS; f <= CHEBYSHEV2; f++) {
-        struct lent s = good();
-        s.decibels = NAN;
-        if (f >= CHEBYSHEV1)
-            expect(f, s, PULSE_INVALID_RIPPLE, "decibels NaN");
-        s.cutoff = f == BAND_PASS ? 0.25 : 0.5;
-        expect(f, s, PULSE_INVALID_FREQUENCY, "cutoff at half the rate, or band edges the same");
-        s.rate = f == BAND_PASS ? 0 : NAN;
-        expect(f, s, f == BAND_PASS ? PULSE_INVALID_FREQUENCY : PULSE_INVALID_SAMPLE_RATE, "the rate too");
-        s.size = f == BAND_PASS ? 5 : 9;
-        expect(f, s, PULSE_INVALID_ORDER, "order too large");
-        s.size = ((size_t)1 << 32) + 2;
-        expect(f, s, PULSE_INVALID_ORDER, "order far too large");
-    }
+static void refused_cascade(enum function f) {
+    enum function kind = default_of(f);
     struct lent s = good();
+    s.decibels = NAN;
+    if (kind >= CHEBYSHEV1)
+        expect(f, s, PULSE_INVALID_RIPPLE, "decibels NaN");
+    s.cutoff = kind == BAND_PASS ? 0.25 : 0.5;
+    expect(f, s, PULSE_INVALID_FREQUENCY, "cutoff at half the rate, or band edges the same");
+    s.rate = kind == BAND_PASS ? 0 : NAN;
+    expect(f, s, kind == BAND_PASS ? PULSE_INVALID_FREQUENCY : PULSE_INVALID_SAMPLE_RATE, "the rate too");
+    s.size = kind == BAND_PASS ? 5 : 9;
+    expect(f, s, PULSE_INVALID_ORDER, "order too large");
+    s.size = ((size_t)1 << 32) + 2;
+    expect(f, s, PULSE_INVALID_ORDER, "order far too large");
+    s = good();
     s.rate = NAN;
-    expect(BAND_PASS, s, PULSE_INVALID_SAMPLE_RATE, "rate NaN");
+    expect(f, s, PULSE_INVALID_SAMPLE_RATE, "rate NaN");
+}
+
+static void refused_taps(enum function design, enum function coeffs) {
+    struct lent s = good();
     s.cutoff = 0.5;
-    expect(FIR_DESIGN, s, PULSE_INVALID_FREQUENCY, "cutoff 0.5");
+    expect(design, s, PULSE_INVALID_FREQUENCY, "cutoff 0.5");
     s.size = 65;
-    expect(FIR_DESIGN, s, PULSE_INVALID_ORDER, "65 taps");
+    expect(design, s, PULSE_INVALID_ORDER, "65 taps");
     s.window = PULSE_READY_MADE;
-    expect(FIR_DESIGN, s, PULSE_BAD_CALL, "window code 4");
+    expect(design, s, PULSE_BAD_CALL, "window code 4");
     s.window = 256;
-    expect(FIR_DESIGN, s, PULSE_BAD_CALL, "window code 256");
+    expect(design, s, PULSE_BAD_CALL, "window code 256");
     for (s.length[INPUT] = 0; s.length[INPUT] < 70; s.length[INPUT]++)
-        expect(FIR_COEFFS, s, s.length[INPUT] == 0 || s.length[INPUT] > 64 ? PULSE_INVALID_ORDER : 0, "ready-made taps by their number");
+        expect(coeffs, s, s.length[INPUT] == 0 || s.length[INPUT] > 64 ? PULSE_INVALID_ORDER : 0, "ready-made taps by their number");
+}
+
+static void refused_designs(void) {
+    for (int f = LOW_PASS; f < CASCADE_STEP; f++)
+        refused_cascade(f);
+    refused_taps(FIR_DESIGN, FIR_COEFFS);
+    refused_taps(FIR_DESIGN_RAW, FIR_COEFFS_RAW);
 }
 
 static int is_plus_zero(double x) { return x == 0 && !signbit(x); }
 
+static int same(const double *a, const double *b, size_t n) {
+    for (size_t i = 0; i < n; i++)
+        if (memcmp(a + i, b + i, sizeof *a) && !(isnan(a[i]) && isnan(b[i])))
+            return 0;
+    return 1;
+}
+
+/* Whether the place of `numbers` is a coefficient of a used part. */
+static int is_coefficient(const struct lent *s, size_t place) {
+    if (place >= PULSE_FIRST_B0)
+        return s->counts[PULSE_HAS_FIRST] && place < PULSE_FIRST_W;
+    return place / PULSE_SECTION_LEN < s->counts[PULSE_SECTIONS] && place % PULSE_SECTION_LEN < PULSE_W1;
+}
+
 static void designed_places(void) {
-    for (int f = LOW_PASS; f <= CHEBYSHEV2; f++) {
+    for (int f = LOW_PASS; f < CASCADE_STEP; f++) {
         struct lent s = good(), old = good();
         s.counts[PULSE_CLOUD] = 1;
         call(f, &s);
-        size_t sections = f == BAND_PASS ? 3 : 1;
-        check(s.counts[PULSE_SECTIONS] == sections && s.counts[PULSE_HAS_FIRST] == (f != BAND_PASS) && s.counts[PULSE_CLOUD] == 0, "counts of a design");
-        for (size_t i = 0; i < PULSE_NUMBERS_LEN; i++) {
-            int is_first = i >= PULSE_FIRST_B0;
-            int is_carried = is_first ? i == PULSE_FIRST_W : i % PULSE_SECTION_LEN >= PULSE_W1;
-            int is_used = is_first ? f != BAND_PASS : i < PULSE_SECTION_LEN * sections;
-            check(is_plus_zero(s.numbers[i]) || (is_used && !is_carried), "unused parts and carried values of a design are +0");
-        }
+        int has_first = default_of(f) != BAND_PASS;
+        size_t sections = has_first ? 1 : 3;
+        check(s.counts[PULSE_SECTIONS] == sections && s.counts[PULSE_HAS_FIRST] == (size_t)has_first && s.counts[PULSE_CLOUD] == 0, "counts of a design");
+        for (size_t i = 0; i < PULSE_NUMBERS_LEN; i++)
+            check(is_plus_zero(s.numbers[i]) || is_coefficient(&s, i), "unused parts and carried values of a design are +0");
         check(memcmp(s.numbers + PULSE_NUMBERS_LEN, old.numbers + PULSE_NUMBERS_LEN, 8 * sizeof(double)) == 0, "places behind the numbers");
     }
 }
@@ -282,13 +328,272 @@ static void three_taps(const struct lent *s, size_t window) {
 }
 
 static void tap_places(void) {
+    for (int f = FIR_DESIGN; f < FIR_STEP; f++) {
+        int is_ready_made = default_of(f) == FIR_COEFFS;
+        struct lent s = good();
+        call(f, &s);
+        check(!is_ready_made || (s.taps[0] == 2 && s.taps[1] == 1 && s.taps[2] == 0), "ready-made taps");
+        three_taps(&s, is_ready_made ? PULSE_READY_MADE : PULSE_HAMMING);
+    }
+}
+
+/* Default and raw forms: 02's Q-3. */
+
+/* A design by its numbers; the decibels are of a Chebyshev low pass, `high` is of a band pass, the window of a FIR. */
+struct asked {
+    enum function f;
+    size_t size;
+    double cutoff, high, decibels, rate;
+    size_t window;
+};
+
+static struct lent lent_for(struct asked a) {
     struct lent s = good();
-    call(FIR_COEFFS, &s);
-    check(s.taps[0] == 2 && s.taps[1] == 1 && s.taps[2] == 0, "ready-made taps");
-    three_taps(&s, PULSE_READY_MADE);
-    s = good();
-    call(FIR_DESIGN, &s);
-    three_taps(&s, PULSE_HAMMING);
+    s.size = a.size;
+    s.cutoff = a.cutoff;
+    s.high = a.high;
+    s.decibels = a.decibels;
+    s.rate = a.rate;
+    s.window = a.window;
+    return s;
+}
+
+/* What the used coefficients of a filter are, a letter each: N a NaN, I an infinity, a dot for a finite number. Those of the
+ * first-order part come first, a space parts it and the sections. */
+enum { MOST_LETTERS = 80 };
+static void put_letters(char *word, const double *x, size_t n) {
+    word += strlen(word);
+    for (size_t i = 0; i < n; i++)
+        *word++ = isnan(x[i]) ? 'N' : isinf(x[i]) ? 'I' : '.';
+    *word = 0;
+}
+
+static void letters_of(enum function f, const struct lent *s, char *word) {
+    *word = 0;
+    if (!is_cascade(f)) {
+        put_letters(word, s->taps, s->fir_counts[PULSE_LENGTH] % (PULSE_TAPS_LEN + 1));
+        return;
+    }
+    if (s->counts[PULSE_HAS_FIRST])
+        put_letters(word, s->numbers + PULSE_FIRST_B0, 3);
+    for (size_t i = 0; i < s->counts[PULSE_SECTIONS] && i < PULSE_MAX_SECTIONS; i++) {
+        if (*word)
+            strcat(word, " ");
+        put_letters(word, s->numbers + PULSE_SECTION_LEN * i, PULSE_W1);
+    }
+}
+
+/* Whether every place of the state but the used coefficients is +0, and no sample was met. */
+static int is_blank_but_for_coefficients(enum function f, const struct lent *s) {
+    int blank = is_cascade(f) ? s->counts[PULSE_CLOUD] == 0 : s->fir_counts[PULSE_HELD] == 0;
+    for (size_t i = 0; i < PULSE_NUMBERS_LEN && is_cascade(f); i++)
+        blank &= is_coefficient(s, i) || is_plus_zero(s->numbers[i]);
+    for (size_t i = 0; i < PULSE_TAPS_LEN && !is_cascade(f); i++)
+        blank &= (i < s->fir_counts[PULSE_LENGTH] || is_plus_zero(s->taps[i])) && is_plus_zero(s->samples[i]);
+    return blank;
+}
+
+/* Whether the raw form accepts, leaves these letters and +0 elsewhere in the state, and nothing behind it. */
+static int is_made_raw(enum function f, struct lent s, const char *letters) {
+    char word[MOST_LETTERS];
+    fill_state(&s);
+    s.counts[PULSE_CLOUD] = 1;
+    struct lent before = s;
+    int made = call(raw_of(f), &s) == 0 && is_blank_but_for_coefficients(f, &s);
+    letters_of(f, &s, word);
+    return made && strcmp(word, letters) == 0 && memcmp(s.numbers + PULSE_NUMBERS_LEN, before.numbers + PULSE_NUMBERS_LEN, 8 * sizeof(double)) == 0
+        && memcmp(s.taps + PULSE_TAPS_LEN, before.taps + PULSE_TAPS_LEN, 16 * sizeof(double)) == 0
+        && memcmp(s.samples + PULSE_SAMPLES_LEN, before.samples + PULSE_SAMPLES_LEN, 16 * sizeof(double)) == 0;
+}
+
+/* What 01 refuses by, in the order of the kind, and last what 02 does. */
+static const uint8_t *reasons_of(enum function kind) {
+    static const uint8_t pass[] = {13, 1, 3, 2, 25, 0}, band[] = {13, 1, 2, 3, 25, 0}, chebyshev[] = {13, 1, 3, 2, 4, 25, 0}, fir[] = {13, 1, 2, 25, 0},
+                         coeffs[] = {13, 1, 25, 0};
+    switch (kind) {
+    case LOW_PASS: case HIGH_PASS: return pass;
+    case BAND_PASS: return band;
+    case CHEBYSHEV1: case CHEBYSHEV2: return chebyshev;
+    default: return kind == FIR_DESIGN ? fir : coeffs;
+    }
+}
+
+/* Something wrong that draws the number, one of two ways. A band pass refuses the rate 0 by 2. */
+static void give_reason(enum function kind, struct lent *s, uint8_t number, int other) {
+    double bad = other ? 0 : NAN;
+    switch (number) {
+    case 13: s->length[is_cascade(kind) ? (other ? NUMBERS : COUNTS) : (other ? SAMPLES : FIR_COUNTS)]++; break;
+    case 1: s->size = s->length[INPUT] = other ? 0 : 65; break;
+    case 2: s->cutoff = bad; break;
+    case 3: s->rate = kind == BAND_PASS ? NAN : bad; break;
+    case 4: s->decibels = bad; break;
+    default: break;
+    }
+}
+
+/* A default form whose coefficients are not all finite: every set of other reasons, of which the first must be returned, and 25
+ * where there is none. The raw form returns the same, and 0 for 25. */
+static void reasons_and_25(enum function f, struct lent bad) {
+    const uint8_t *reasons = reasons_of(f);
+    size_t n = strlen((const char *)reasons) - 1;
+    for (unsigned set = 0; set < 1u << n; set++)
+        for (int other = 0; other < 2; other++) {
+            struct lent s = bad;
+            uint8_t number = PULSE_NON_FINITE_COEFFICIENT;
+            for (size_t i = n; i-- > 0;)
+                if (set >> i & 1) {
+                    give_reason(f, &s, reasons[i], other);
+                    number = reasons[i];
+                }
+            expect(f, s, number, "coefficients that are not finite, and other reasons");
+            expect(raw_of(f), s, set ? number : 0, "the raw form of it");
+        }
+}
+
+static void not_finite(enum function f, struct lent s, const char *letters) {
+    expect(f, s, PULSE_NON_FINITE_COEFFICIENT, "a coefficient that is not finite");
+    check(is_made_raw(f, s, letters), "what a raw form makes of coefficients that are not finite");
+}
+
+/* Designs that have NaNs in every part, or in some alone. Infinities are tried in ready-made taps: no design is known that has one. */
+static const struct nan_design {
+    struct asked asked;
+    const char *letters;
+} nan_designs[] = {
+    {{LOW_PASS, 3, 8e307, 0, 0, DBL_MAX, 0}, "NNN NNNNN"},
+    {{LOW_PASS, 1, 1e308, 0, 0, INFINITY, 0}, "NNN"},
+    {{HIGH_PASS, 3, 8e307, 0, 0, DBL_MAX, 0}, "NNN NNNNN"},
+    {{HIGH_PASS, 2, 1e308, 0, 0, INFINITY, 0}, "NNNNN"},
+    {{BAND_PASS, 1, 1, 8e307, 0, DBL_MAX, 0}, "N.NNN"},
+    {{BAND_PASS, 2, 1, 1.0001, 0, 4, 0}, "...NN ...NN"},
+    {{BAND_PASS, 3, 1, 1.0001, 0, 4, 0}, "...NN ...NN ....."},
+    {{BAND_PASS, 4, 1, 1.0001, 0, 4, 0}, "...NN ...NN ...NN ...NN"},
+    {{BAND_PASS, 4, 0.2495983436657524, 0.24963284238591849, 0, 1, 0}, "..... ..... ...NN ...NN"},
+    {{BAND_PASS, 4, 4.491306378778225e307, 4.49203654027464e307, 0, DBL_MAX, 0}, "...NN ...NN ..... ....."},
+    {{CHEBYSHEV1, 3, 0.1, 0, 2e-16, 1, 0}, "NNN NNNNN"},
+    {{CHEBYSHEV1, 8, 0.1, 0, 1e-17, 1, 0}, "NNNNN NNNNN NNNNN NNNNN"},
+    {{CHEBYSHEV1, 1, 0.1, 0, 5e-324, 1, 0}, "NNN"},
+    {{CHEBYSHEV1, 2, 8e307, 0, 3, DBL_MAX, 0}, "NNNNN"},
+    {{CHEBYSHEV2, 3, 0.1, 0, 2e-16, 1, 0}, "NNN ....."},
+    {{CHEBYSHEV2, 7, 0.1, 0, 5e-324, 1, 0}, "NNN ..... ..... ....."},
+    {{CHEBYSHEV2, 2, 0.1, 0, 3090, 1, 0}, "NNNNN"},
+    {{CHEBYSHEV2, 7, 0.1, 0, 7000, 1, 0}, "... NNNNN NNNNN NNNNN"},
+    {{CHEBYSHEV2, 3, 0.1, 0, INFINITY, 1, 0}, "... NNNNN"},
+    {{FIR_DESIGN, 1, 0.25, 0, 0, 1, PULSE_HAMMING}, "N"},
+    {{FIR_DESIGN, 1, 0.25, 0, 0, 1, PULSE_HANNING}, "N"},
+    {{FIR_DESIGN, 1, 5e-324, 0, 0, 1, PULSE_BLACKMAN}, "N"},
+};
+
+static size_t most_of(enum function kind) { return kind == BAND_PASS ? PULSE_MAX_BANDPASS_ORDER : PULSE_MAX_ORDER; }
+
+/* Every order, with a cutoff so large that PI times it overflows. */
+static void overflowing_designs(void) {
+    for (int f = LOW_PASS; f <= CHEBYSHEV2; f++)
+        for (size_t order = 1; order <= most_of(f); order++) {
+            int is_band = f == BAND_PASS;
+            char letters[MOST_LETTERS] = "";
+            if (!is_band && order % 2)
+                strcat(letters, "NNN");
+            for (size_t i = 0; i < (is_band ? order : order / 2); i++) {
+                strcat(letters, *letters ? " " : "");
+                strcat(letters, is_band ? "N.NNN" : "NNNNN");
+            }
+            not_finite(f, lent_for((struct asked){f, order, 7e307, 8e307, 3, DBL_MAX, 0}), letters);
+        }
+}
+
+/* A number that is not finite at each place of 1 to 64 ready-made taps, and NaNs behind them, which do not count. */
+static void not_finite_taps(void) {
+    double numbers[6] = {INFINITY, -INFINITY};
+    fill_with_nans(numbers + 2, 4);
+    for (size_t n = 1; n <= PULSE_MAX_TAPS; n++) {
+        struct lent s = good();
+        s.length[INPUT] = n;
+        fill_with_nans(s.input + n, 80 - n);
+        expect(FIR_COEFFS, s, 0, "NaNs behind ready-made taps");
+        for (size_t at = 0; at < n; at++)
+            for (int i = 0; i < 6; i++) {
+                struct lent bad = s;
+                char letters[MOST_LETTERS] = "";
+                memcpy(bad.input + at, numbers + i, sizeof *numbers);
+                put_letters(letters, bad.input, n);
+                not_finite(FIR_COEFFS, bad, letters);
+                check(call(FIR_COEFFS_RAW, &bad) == 0 && same(bad.taps, bad.input, n), "ready-made taps that are not finite by their numbers");
+            }
+    }
+}
+
+/* Whether the state's own places have the same bits in both. */
+static int same_bits(enum function f, const struct lent *a, const struct lent *b) {
+    if (is_cascade(f))
+        return memcmp(a->numbers, b->numbers, PULSE_NUMBERS_LEN * sizeof(double)) == 0 && memcmp(a->counts, b->counts, sizeof a->counts) == 0;
+    return memcmp(a->taps, b->taps, PULSE_TAPS_LEN * sizeof(double)) == 0 && memcmp(a->samples, b->samples, PULSE_SAMPLES_LEN * sizeof(double)) == 0
+        && memcmp(a->fir_counts, b->fir_counts, sizeof a->fir_counts) == 0;
+}
+
+/* Both forms of a call whose coefficients are finite: accepted, and the same in every place. NaNs that the state held do not count. */
+static void same_forms(enum function f, struct lent s, const char *what) {
+    struct lent raw = s, full = s;
+    char word[MOST_LETTERS];
+    fill_state(&full);
+    uint8_t given = call(f, &s);
+    letters_of(f, &s, word);
+    tried++;
+    if (given || strpbrk(word, "NI") || call(raw_of(f), &raw) || memcmp(&s, &raw, sizeof s) || call(f, &full) || !same_bits(f, &s, &full))
+        fail(what, names[f], 0, given);
+}
+
+/* Every order and number of taps, also at an infinite rate. */
+static void finite_designs(void) {
+    static const double cutoffs[] = {5e-324, 1e-9, 0.01, 0.125, 0.2, 0.249}, decibels[] = {1e-3, 0.5, 3, 40};
+    for (int i = 0; i < 6 * 4; i++) {
+        struct asked a = {LOW_PASS, 0, cutoffs[i % 6], 0.4, decibels[i / 6], i % 2 ? 1 : INFINITY, (size_t)(i / 6)};
+        for (int f = LOW_PASS; f <= CHEBYSHEV2; f++)
+            for (a.size = 1; a.size <= most_of(f); a.size++)
+                same_forms(f, lent_for(a), "both forms of a design");
+        for (a.size = a.window == PULSE_RECTANGULAR ? 1 : 2; a.size <= PULSE_MAX_TAPS; a.size++)
+            same_forms(FIR_DESIGN, lent_for(a), "both forms of a FIR");
+    }
+}
+
+/* Every number of ready-made taps, with the largest and the smallest numbers too. */
+static void finite_taps(void) {
+    static const double ends[] = {DBL_MAX, -DBL_MAX, 5e-324, -5e-324, DBL_MIN, 0.0, -0.0};
+    for (size_t n = 1; n <= PULSE_MAX_TAPS; n++) {
+        struct lent s = good();
+        s.length[INPUT] = n;
+        same_forms(FIR_COEFFS, s, "both forms of ready-made taps");
+        for (size_t i = 0; i < n; i++)
+            s.input[i] = ends[(n + i) % 7];
+        same_forms(FIR_COEFFS, s, "both forms of ready-made taps, the largest and the smallest");
+    }
+}
+
+/* Finite and useless, and accepted by both forms: two Blackman taps, two Hanning taps, a narrow band pass off its frequency. */
+static void useless_designs(void) {
+    struct asked blackman = {FIR_DESIGN, 2, 0.25, 0, 0, 1, PULSE_BLACKMAN}, hanning = blackman, narrow = {BAND_PASS, 2, 999.5, 1000.5, 0, 10000, 0};
+    hanning.window = PULSE_HANNING;
+    same_forms(FIR_DESIGN, lent_for(blackman), "two Blackman taps");
+    same_forms(FIR_DESIGN, lent_for(hanning), "two Hanning taps");
+    same_forms(BAND_PASS, lent_for(narrow), "a narrow band pass");
+    struct lent s = lent_for(blackman);
+    check(call(FIR_DESIGN, &s) == 0 && s.taps[0] != 0 && s.taps[0] == s.taps[1] && fabs(s.taps[0] + 6.2e-18) < 1e-19, "two Blackman taps by their numbers");
+}
+
+static void default_and_raw(void) {
+    for (size_t i = 0; i < sizeof nan_designs / sizeof *nan_designs; i++) {
+        const struct nan_design *d = nan_designs + i;
+        not_finite(d->asked.f, lent_for(d->asked), d->letters);
+        reasons_and_25(d->asked.f, lent_for(d->asked));
+    }
+    struct lent taps = good();
+    taps.input[1] = -INFINITY;
+    reasons_and_25(FIR_COEFFS, taps);
+    overflowing_designs();
+    not_finite_taps();
+    finite_designs();
+    finite_taps();
+    useless_designs();
 }
 
 /* An answer that overflows from a finite sample is Clear. */
@@ -380,13 +685,6 @@ static void fill_with_samples(double *places, size_t n, int mood) {
         fill_with_nans(places + n / 2, 1);
     if (n && mood >= 2)
         places[mood == 2 ? n - 1 : 0] = mood == 2 ? INFINITY : -INFINITY;
-}
-
-static int same(const double *a, const double *b, size_t n) {
-    for (size_t i = 0; i < n; i++)
-        if (memcmp(a + i, b + i, sizeof *a) && !(isnan(a[i]) && isnan(b[i])))
-            return 0;
-    return 1;
 }
 
 /* A cascade with an unused section, or a FIR of 40 taps that holds 17 samples: a place that a call leaves holds a NaN. */
@@ -1015,8 +1313,8 @@ static void more_channels(void) {
 }
 
 /* The short parts come first: a run stops after a part with a difference. */
-static void (*const parts[])(void) = {wrong_lengths, damaged_states, refused_designs, designed_places, tap_places, cascade_places, fir_places,
-                                      overflow, channels, blocks_in_place, pulses, more_channels};
+static void (*const parts[])(void) = {wrong_lengths, damaged_states, refused_designs, designed_places, tap_places, default_and_raw, cascade_places,
+                                      fir_places, overflow, channels, blocks_in_place, pulses, more_channels};
 
 int main(void) {
     for (size_t i = 0; i < sizeof parts / sizeof *parts && !failed; i++)

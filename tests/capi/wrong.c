@@ -2,9 +2,14 @@
  * and spoils one thing, by the number in the environment variable WRONG; without it nothing is spoiled. tests/capi/run
  * links the tests with this too, and each number from 1 to WRONGS - 1 must make them fail. */
 #include "pulse.h"
+#include <float.h>
 #include <math.h>
 #include <stdlib.h>
 #include <string.h>
+
+/* What has a default and a raw form: the designs, and ready-made taps. */
+enum form { LOW, HIGH, BAND, RIPPLE, STOPBAND, FIR, COEFFS, FORMS };
+enum { BEFORES = 9 }; /* rows of the table `befores` */
 
 enum wrong {
     NOTHING,
@@ -81,6 +86,31 @@ enum wrong {
     J211_NAN_RATE,          /* a rate that is a NaN is refused by 2 */
     J211_INFINITE_RATE,     /* an infinite rate is refused by 3 */
     J211_REFUSED_WRITES,    /* a refused call makes the first place 0 */
+    /* Default and raw forms, 02's Q-3. These of each function in turn, as `enum form` has them: */
+    DEFAULT_ACCEPTS,        /* 25 is never returned */
+    DEFAULT_WRITES = DEFAULT_ACCEPTS + FORMS, /* a refusal by 25 writes what the raw form makes */
+    DEFAULT_EARLY = DEFAULT_WRITES + FORMS, /* 25 before 13 */
+    DEFAULT_HELD = DEFAULT_EARLY + FORMS, /* 25 by a carried value, or a tap behind the length, that the state held before the call */
+    RAW_REFUSES = DEFAULT_HELD + FORMS, /* the raw form refuses by 25 */
+    RAW_REFUSED_WRITES = RAW_REFUSES + FORMS, /* a refused raw form makes the first place 0 */
+    RAW_OTHER = RAW_REFUSED_WRITES + FORMS, /* the raw form is another design, or has other taps */
+    RAW_LENGTH = RAW_OTHER + FORMS, /* the raw form accepts a longer `numbers` or `taps` */
+    BEFORE = RAW_LENGTH + FORMS, /* 25 before another number, as the table `befores` has them */
+    LOW_FIRST_UNSEEN = BEFORE + BEFORES, /* the first-order part is not looked at */
+    HIGH_LAST_UNSEEN,       /* the last section is not looked at */
+    BAND_TWO_SEEN,          /* sections from the third on are not looked at */
+    BAND_A_UNSEEN,          /* a1 and a2 are not looked at */
+    STOPBAND_FIRST_UNSEEN,  /* the first-order part is not looked at where there are sections */
+    STOPBAND_SECTIONS_UNSEEN, /* sections are not looked at where there is a first-order part */
+    COEFFS_INFINITY,        /* infinities are accepted */
+    COEFFS_NEGATIVE,        /* the negative infinity is accepted */
+    COEFFS_NAN,             /* NaNs are accepted */
+    COEFFS_FIRST_SEEN,      /* the first tap alone is looked at */
+    COEFFS_LAST_UNSEEN,     /* the last tap is not looked at */
+    COEFFS_HALF_SEEN,       /* taps from the 33rd on are not looked at */
+    COEFFS_LARGEST,         /* the largest number is refused by 25 */
+    FIR_USELESS,            /* two Blackman taps are refused by 25 */
+    FIR_SINGLE,             /* a single rectangular tap is refused by 25 */
     /* Channels of the rival recorder's blocks. */
     CHANNEL_HIGH_FIRST,     /* a code has its high byte first */
     CHANNEL_SAMPLES_HIGH_FIRST, /* the samples per channel have their high byte first */
@@ -160,21 +190,205 @@ static uint8_t designed(uint8_t number, CASCADE, size_t cloud) {
     return number;
 }
 
-uint8_t __real_pulse_design_butterworth_lp(size_t order, double cutoff, double rate, CASCADE);
+/* Default and raw forms. A design, or ready-made taps, by its arguments: floats in their order, and the slices of its state, whose
+ * `n` are numbers or taps. */
+struct design {
+    enum form form;
+    size_t order;
+    double x[3];
+    size_t window;
+    const double *v;
+    size_t vl;
+};
+struct state {
+    double *n;
+    size_t nl;
+    double *s;
+    size_t sl;
+    size_t *c;
+    size_t cl;
+};
+#define TAPS double *t, size_t tl, TAP_RECORD
+#define BOTH(name, ...) uint8_t __real_##name(__VA_ARGS__); uint8_t __real_##name##_raw(__VA_ARGS__)
+BOTH(pulse_design_butterworth_lp, size_t order, double cutoff, double rate, CASCADE);
+BOTH(pulse_design_butterworth_hp, size_t order, double cutoff, double rate, CASCADE);
+BOTH(pulse_design_butterworth_bp, size_t order, double low, double high, double rate, CASCADE);
+BOTH(pulse_design_chebyshev1_lp, size_t order, double cutoff, double decibels, double rate, CASCADE);
+BOTH(pulse_design_chebyshev2_lp, size_t order, double cutoff, double decibels, double rate, CASCADE);
+BOTH(pulse_design_fir_lp, size_t taps, double cutoff, size_t window, TAPS);
+BOTH(pulse_fir_from_coeffs, const double *v, size_t vl, TAPS);
+
+/* The archive's own function. */
+#define OF(name) (raw ? __real_##name##_raw : __real_##name)
+static uint8_t real(const struct design *d, int raw, struct state s) {
+    const double *x = d->x;
+    switch (d->form) {
+    case LOW: return OF(pulse_design_butterworth_lp)(d->order, x[0], x[1], s.n, s.nl, s.c, s.cl);
+    case HIGH: return OF(pulse_design_butterworth_hp)(d->order, x[0], x[1], s.n, s.nl, s.c, s.cl);
+    case BAND: return OF(pulse_design_butterworth_bp)(d->order, x[0], x[1], x[2], s.n, s.nl, s.c, s.cl);
+    case RIPPLE: return OF(pulse_design_chebyshev1_lp)(d->order, x[0], x[1], x[2], s.n, s.nl, s.c, s.cl);
+    case STOPBAND: return OF(pulse_design_chebyshev2_lp)(d->order, x[0], x[1], x[2], s.n, s.nl, s.c, s.cl);
+    case FIR: return OF(pulse_design_fir_lp)(d->order, x[0], d->window, s.n, s.nl, s.s, s.sl, s.c, s.cl);
+    default: return OF(pulse_fir_from_coeffs)(d->v, d->vl, s.n, s.nl, s.s, s.sl, s.c, s.cl);
+    }
+}
+
+/* What the raw form makes over slices of its own. */
+struct made {
+    double n[64], s[64];
+    size_t c[3];
+    uint8_t number;
+};
+
+static size_t length_of(const struct design *d) { return d->form < FIR ? 32 : 64; }
+
+static struct made made(const struct design *d) {
+    struct made m;
+    m.number = real(d, 1, (struct state){m.n, length_of(d), m.s, 64, m.c, 3});
+    return m;
+}
+
+static void put(const struct design *d, const struct made *m, struct state s) {
+    memcpy(s.n, m->n, length_of(d) * sizeof *s.n);
+    memcpy(s.c, m->c, sizeof m->c);
+    if (d->form >= FIR)
+        memcpy(s.s, m->s, sizeof m->s);
+}
+
+/* Whether a wrong default form takes a coefficient for finite. */
+static int passes(enum form form, double x) {
+    if (form != COEFFS)
+        return isfinite(x);
+    return isfinite(x) || (isinf(x) && is(COEFFS_INFINITY)) || (x == -INFINITY && is(COEFFS_NEGATIVE)) || (isnan(x) && is(COEFFS_NAN));
+}
+
+static int all_pass(enum form form, const double *x, size_t n) {
+    for (size_t i = 0; i < n; i++)
+        if (!passes(form, x[i]))
+            return 0;
+    return 1;
+}
+
+/* Whether a wrong default form sees only finite coefficients in what the raw form made. */
+static int cascade_passes(enum form form, const struct made *m) {
+    size_t end = m->c[0], each = form == BAND && is(BAND_A_UNSEEN) ? 3 : 5;
+    int unseen = (form == LOW && is(LOW_FIRST_UNSEEN)) || (form == STOPBAND && end && is(STOPBAND_FIRST_UNSEEN));
+    if (form == HIGH && end && is(HIGH_LAST_UNSEEN))
+        end--;
+    if (form == BAND && end > 2 && is(BAND_TWO_SEEN))
+        end = 2;
+    if (form == STOPBAND && m->c[1] && is(STOPBAND_SECTIONS_UNSEEN))
+        end = 0;
+    for (size_t i = 0; i < end; i++)
+        if (!all_pass(form, m->n + 7 * i, each))
+            return 0;
+    return !m->c[1] || unseen || all_pass(form, m->n + 28, 3);
+}
+
+static int taps_pass(enum form form, const struct made *m) {
+    size_t end = m->c[0];
+    if (form == COEFFS && is(COEFFS_FIRST_SEEN))
+        end = 1;
+    if (form == COEFFS && is(COEFFS_LAST_UNSEEN))
+        end--;
+    if (form == COEFFS && end > 32 && is(COEFFS_HALF_SEEN))
+        end = 32;
+    return all_pass(form, m->n, end);
+}
+
+/* Whether coefficients would not be finite, were the call not refused by another number. */
+static int would_not_be_finite(const struct design *d) {
+    if (d->form == COEFFS)
+        return !all_pass(FORMS, d->v, d->vl);
+    return d->form == FIR ? d->order == 1 && d->window > 0 : isnan(d->x[0]) || isnan(d->x[1]) || isnan(d->x[2]);
+}
+
+/* What a wrong default form refuses by 25 though it is finite; the slices are those before the call. */
+static int refuses_more(const struct design *d, const struct made *m, struct state s) {
+    int held = 0;
+    for (size_t i = m->c[0]; i < 64 && d->form >= FIR; i++)
+        held |= !isfinite(s.n[i]);
+    if (d->form < FIR)
+        held = !isfinite(s.n[5]) || !isfinite(s.n[31]);
+    for (size_t i = 0; i < d->vl && is(COEFFS_LARGEST); i++)
+        if (fabs(d->v[i]) == DBL_MAX)
+            return 1;
+    return (held && is(DEFAULT_HELD + d->form)) || (d->form == FIR && d->order == 2 && d->window == 3 && is(FIR_USELESS))
+        || (d->form == FIR && d->order == 1 && is(FIR_SINGLE));
+}
+
+/* A number of a function that 25 comes before. */
+static const struct before {
+    enum form form;
+    uint8_t number;
+} befores[BEFORES] = {{LOW, 1}, {LOW, 2}, {HIGH, 3}, {BAND, 2}, {BAND, 3}, {RIPPLE, 4}, {STOPBAND, 4}, {FIR, 2}, {COEFFS, 1}};
+
+static int comes_before(const struct design *d, uint8_t number) {
+    for (int i = 0; i < BEFORES; i++)
+        if (befores[i].form == d->form && befores[i].number == number && is(BEFORE + i))
+            return would_not_be_finite(d);
+    return 0;
+}
+
+/* A default form. */
+static uint8_t by_default(struct design d, struct state s) {
+    if (asked() < DEFAULT_ACCEPTS || asked() >= CHANNEL_HIGH_FIRST)
+        return real(&d, 0, s);
+    struct made m = made(&d);
+    int right = s.nl == length_of(&d) && s.cl == 3 && (d.form < FIR || s.sl == 64);
+    if (right && m.number == 0 && refuses_more(&d, &m, s))
+        return 25;
+    uint8_t number = real(&d, 0, s);
+    int passed = m.number == 0 && (d.form < FIR ? cascade_passes(d.form, &m) : taps_pass(d.form, &m));
+    if (number == 13 && m.number == 0 && !passed && is(DEFAULT_EARLY + d.form))
+        return 25;
+    if (number == 25 && (passed || is(DEFAULT_ACCEPTS + d.form) || is(DEFAULT_WRITES + d.form))) {
+        put(&d, &m, s);
+        return is(DEFAULT_WRITES + d.form) ? 25 : 0;
+    }
+    return comes_before(&d, number) ? 25 : number;
+}
+
+/* Another design, or other taps. */
+static struct design other(struct design d) {
+    static const enum form others[FORMS] = {HIGH, LOW, BAND, STOPBAND, RIPPLE, FIR, COEFFS};
+    d.form = others[d.form];
+    d.x[2] *= d.form == BAND ? 2 : 1;
+    d.window = d.window < 4 ? 3 - d.window : d.window;
+    d.vl = (d.vl + 1) / 2;
+    return d;
+}
+
+/* A raw form. */
+static uint8_t by_raw(struct design d, struct state s) {
+    enum form form = d.form;
+    if (is(RAW_OTHER + form))
+        d = other(d);
+    if (s.nl == length_of(&d) + 1 && is(RAW_LENGTH + form))
+        s.nl--;
+    uint8_t number = real(&d, !is(RAW_REFUSES + form), s);
+    if (number && s.nl && is(RAW_REFUSED_WRITES + form))
+        s.n[0] = 0;
+    return number;
+}
+
+#define OF_CASCADE (struct state){n, nl, 0, 0, c, cl}
+#define OF_TAPS (struct state){t, tl, s, sl, c, cl}
+
 REAL(pulse_design_butterworth_hp, size_t order, double cutoff, double rate, CASCADE) {
     size_t cloud = cl == 3 ? c[2] : 0;
     if (is(HIGH_IS_LOW))
         return __real_pulse_design_butterworth_lp(order, cutoff, rate, n, nl, c, cl);
     if (order == 9 && is(HIGH_ORDER_9))
         order = 8;
-    return designed(__real_pulse_design_butterworth_hp(order, cutoff, rate, n, nl, c, cl), n, nl, c, cl, cloud);
+    return designed(by_default((struct design){HIGH, order, {cutoff, rate, 0}, 0, 0, 0}, OF_CASCADE), n, nl, c, cl, cloud);
 }
 
 REAL(pulse_design_butterworth_lp, size_t order, double cutoff, double rate, CASCADE) {
     size_t cloud = cl == 3 ? c[2] : 0;
     if (is(LOW_IS_HIGH))
         return __real_pulse_design_butterworth_hp(order, cutoff, rate, n, nl, c, cl);
-    uint8_t number = __real_pulse_design_butterworth_lp(order, cutoff, rate, n, nl, c, cl);
+    uint8_t number = by_default((struct design){LOW, order, {cutoff, rate, 0}, 0, 0, 0}, OF_CASCADE);
     if (number == 3 && !(cutoff > 0) && is(RATE_AFTER_CUTOFF))
         return 2;
     return designed(number, n, nl, c, cl, cloud);
@@ -182,7 +396,7 @@ REAL(pulse_design_butterworth_lp, size_t order, double cutoff, double rate, CASC
 
 REAL(pulse_design_butterworth_bp, size_t order, double low, double high, double rate, CASCADE) {
     size_t cloud = cl == 3 ? c[2] : 0;
-    uint8_t number = __real_pulse_design_butterworth_bp(order, low, high, rate, n, nl, c, cl);
+    uint8_t number = by_default((struct design){BAND, order, {low, high, rate}, 0, 0, 0}, OF_CASCADE);
     if (number == 2 && !(rate > 0) && is(BAND_RATE_FIRST))
         return 3;
     if (!number && order > 1 && is(BAND_SWAPPED)) {
@@ -194,12 +408,11 @@ REAL(pulse_design_butterworth_bp, size_t order, double low, double high, double 
     return designed(number, n, nl, c, cl, cloud);
 }
 
-uint8_t __real_pulse_design_chebyshev2_lp(size_t order, double cutoff, double decibels, double rate, CASCADE);
 REAL(pulse_design_chebyshev1_lp, size_t order, double cutoff, double decibels, double rate, CASCADE) {
     size_t cloud = cl == 3 ? c[2] : 0;
     if (is(TYPE_ONE_IS_TWO))
         return __real_pulse_design_chebyshev2_lp(order, cutoff, decibels, rate, n, nl, c, cl);
-    uint8_t number = __real_pulse_design_chebyshev1_lp(order, cutoff, decibels, rate, n, nl, c, cl);
+    uint8_t number = by_default((struct design){RIPPLE, order, {cutoff, decibels, rate}, 0, 0, 0}, OF_CASCADE);
     if (number == 1 && !(decibels > 0) && is(RIPPLE_FIRST))
         return 4;
     return designed(number, n, nl, c, cl, cloud);
@@ -207,10 +420,30 @@ REAL(pulse_design_chebyshev1_lp, size_t order, double cutoff, double decibels, d
 
 REAL(pulse_design_chebyshev2_lp, size_t order, double cutoff, double decibels, double rate, CASCADE) {
     size_t cloud = cl == 3 ? c[2] : 0;
-    uint8_t number = __real_pulse_design_chebyshev2_lp(order, cutoff, decibels, rate, n, nl, c, cl);
+    uint8_t number = by_default((struct design){STOPBAND, order, {cutoff, decibels, rate}, 0, 0, 0}, OF_CASCADE);
     if (!number && is(STOPBAND_LAST_BIT))
         n[4] = next(n[4]);
     return designed(number, n, nl, c, cl, cloud);
+}
+
+REAL(pulse_design_butterworth_lp_raw, size_t order, double cutoff, double rate, CASCADE) {
+    return by_raw((struct design){LOW, order, {cutoff, rate, 0}, 0, 0, 0}, OF_CASCADE);
+}
+
+REAL(pulse_design_butterworth_hp_raw, size_t order, double cutoff, double rate, CASCADE) {
+    return by_raw((struct design){HIGH, order, {cutoff, rate, 0}, 0, 0, 0}, OF_CASCADE);
+}
+
+REAL(pulse_design_butterworth_bp_raw, size_t order, double low, double high, double rate, CASCADE) {
+    return by_raw((struct design){BAND, order, {low, high, rate}, 0, 0, 0}, OF_CASCADE);
+}
+
+REAL(pulse_design_chebyshev1_lp_raw, size_t order, double cutoff, double decibels, double rate, CASCADE) {
+    return by_raw((struct design){RIPPLE, order, {cutoff, decibels, rate}, 0, 0, 0}, OF_CASCADE);
+}
+
+REAL(pulse_design_chebyshev2_lp_raw, size_t order, double cutoff, double decibels, double rate, CASCADE) {
+    return by_raw((struct design){STOPBAND, order, {cutoff, decibels, rate}, 0, 0, 0}, OF_CASCADE);
 }
 
 /* What all runs of a cascade may take for good. */
@@ -268,8 +501,8 @@ REAL(pulse_cascade_reset, CASCADE) {
     return number == 11 && is(RESET_TAKES_BAD) ? 0 : number;
 }
 
-REAL(pulse_design_fir_lp, size_t taps, double cutoff, size_t window, double *t, size_t tl, TAP_RECORD) {
-    uint8_t number = __real_pulse_design_fir_lp(taps, cutoff, window == 4 && is(FIR_WINDOW_4) ? 0 : window, t, tl, s, sl, c, cl);
+REAL(pulse_design_fir_lp, size_t taps, double cutoff, size_t window, TAPS) {
+    uint8_t number = by_default((struct design){FIR, taps, {cutoff, 0, 0}, window == 4 && is(FIR_WINDOW_4) ? 0 : window, 0, 0}, OF_TAPS);
     if (!number && is(FIR_WINDOW_CODE))
         c[2] = 4;
     if (!number && is(FIR_TAP_LAST_BIT))
@@ -277,15 +510,23 @@ REAL(pulse_design_fir_lp, size_t taps, double cutoff, size_t window, double *t, 
     return number;
 }
 
-REAL(pulse_fir_from_coeffs, const double *v, size_t vl, double *t, size_t tl, TAP_RECORD) {
+REAL(pulse_fir_from_coeffs, const double *v, size_t vl, TAPS) {
     double old[64];
     if (vl == 64 && tl == 64 && sl == 64 && cl == 3 && is(COEFFS_64))
         return 1;
     memcpy(old, t, (tl < 64 ? tl : 64) * sizeof *t);
-    uint8_t number = __real_pulse_fir_from_coeffs(v, vl, t, tl, s, sl, c, cl);
+    uint8_t number = by_default((struct design){COEFFS, 0, {0, 0, 0}, 0, v, vl}, OF_TAPS);
     if (!number && is(COEFFS_KEEP_BEHIND))
         memcpy(t + vl, old + vl, (64 - vl) * sizeof *t);
     return number;
+}
+
+REAL(pulse_design_fir_lp_raw, size_t taps, double cutoff, size_t window, TAPS) {
+    return by_raw((struct design){FIR, taps, {cutoff, 0, 0}, window, 0, 0}, OF_TAPS);
+}
+
+REAL(pulse_fir_from_coeffs_raw, const double *v, size_t vl, TAPS) {
+    return by_raw((struct design){COEFFS, 0, {0, 0, 0}, 0, v, vl}, OF_TAPS);
 }
 
 /* Whether a step since the last reset met a sample that was not finite. */

@@ -1,21 +1,22 @@
 -- What a design call shows where it returns.
-use mathlib.Core.Path.{_≡_}
+use mathlib.Core.Path.{_≡_, ap, _∙_}
 use mathlib.Core.Bool.{true, false, _&&_}
 use mathlib.Core.List.{List}
-use Prim.Native.Nat.{ℕ}
+use Prim.Native.Nat.{ℕ, _<_, _≤_}
 use lib.Dec.{eqb}
 use lib.ListN.{length}
 use lib.Ieee.{Float}
-use borrow.Author.Tests.{eq-eqb, ne-eqb, eqb-true}
+use borrow.Author.Tests.{eq-eqb, ne-eqb, eqb-true, le-leb, lt-leb}
 use Rattle.limits.specs.Limits.{maxTaps}
 use Rattle.runs.specs.Refusals.{Accepted, BadCall}
-use Rattle.fir_theory.specs.Fir.{FirDesignRecord}
+use Rattle.fir_theory.specs.Fir.{FirDesignRecord, Blackman}
+use Rattle.design_fir.specs.declared.WindowType.{WindowType}
 use Rattle.design_cascade.specs.Design.{CascadeDesignRecord}
 use Rattle.c_layout.specs.Layout.{countPlaces, cascadePlaces, cascadeNumbers, cascadeCounts}
 use Rattle.lists.proofs.Tests.{both}
 use Rattle.c_calls.specs.Kinds.{tapsCounts}
 use Rattle.c_calls.specs.Calls.{StoredRecord, notStored}
-use Rattle.c_designs.specs.Designs.{TapsStoredRecord, designCall, tapsUnchanged, tapsPlaces, madeCall}
+use Rattle.c_designs.specs.Designs.{TapsStoredRecord, designCall, windowOf, tapsUnchanged, tapsPlaces, madeCall, firCall}
 
 -- slices of a tap record
 pub taps-last : (ts ss : List Float) (cs : List ℕ) → length ts ≡ maxTaps → length ss ≡ maxTaps → eqb (length cs) countPlaces ≡ tapsPlaces ts ss cs
@@ -59,3 +60,14 @@ module _ (m : FirDesignRecord) (ts ss : List Float) (cs : List ℕ) where
       → _≡_ {A = TapsStoredRecord} (record { refusal = Accepted; taps = ts′; samples = ss′; counts = cs′ }) (madeCall ts ss cs m)
   unfolding madeCall
   made-accepted h k et es ec = rw (h, eq-eqb (m .refusal) 0 k, et, es, ec)
+
+-- ---- a FIR design by the window's code
+module _ (made : WindowType → FirDesignRecord) (ts ss : List Float) (cs : List ℕ) (window : ℕ) where
+  pub code-refused : Blackman < window → tapsUnchanged ts ss cs BadCall ≡ firCall ts ss cs made window
+  unfolding firCall
+  code-refused h = rw (lt-leb window Blackman h)
+
+  pub code-designed : {z : TapsStoredRecord} {w : WindowType} {m : FirDesignRecord} → window ≤ Blackman → w ≡ windowOf window → m ≡ made w
+      → z ≡ madeCall ts ss cs m → z ≡ firCall ts ss cs made window
+  unfolding firCall
+  code-designed h ew em e = rw (le-leb window Blackman h) (e ∙ ap (madeCall ts ss cs) (em ∙ ap made ew))

@@ -8,7 +8,6 @@ use lib.Ieee.{Float}
 use Rattle.limits.specs.Limits.{maxTaps}
 use Rattle.runs.specs.Refusals.{Accepted, BadCall}
 use Rattle.fir_theory.specs.Fir.{FirDesignRecord, Blackman}
-use Rattle.design_fir.specs.Fir.{firLp}
 use Rattle.design_fir.specs.declared.WindowType.{WindowType}
 use Rattle.design_cascade.specs.Design.{CascadeDesignRecord}
 use Rattle.c_layout.specs.Layout.{countPlaces, cascadePlaces, cascadeNumbers, cascadeCounts}
@@ -49,6 +48,6 @@ module _ (taps samples : List Float) (counts : List ℕ) where
       (tapsUnchanged (m .refusal)))
       (tapsUnchanged BadCall)
 
-  -- a FIR design by the window's code; there is none above Blackman's
-  unfoldable pub firCall : ℕ → Float → ℕ → TapsStoredRecord
-  firCall n cutoff window = cond (leb window Blackman) (madeCall (firLp n cutoff (windowOf window))) (tapsUnchanged BadCall)
+  -- a FIR design, which is made of a window, by the window's code; there is none above Blackman's
+  unfoldable pub firCall : (WindowType → FirDesignRecord) → ℕ → TapsStoredRecord
+  firCall made window = cond (leb window Blackman) (madeCall (made (windowOf window))) (tapsUnchanged BadCall)

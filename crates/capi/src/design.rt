@@ -1,9 +1,11 @@
-// The designs of both kinds, and ready-made taps, into slices.
+// The designs of both kinds, and ready-made taps, into slices. Coefficients that are not all finite are refused by 25.
 ghost use mathlib.Core.Path.{_≡_};
-ghost use Rattle.fir_theory.specs.Fir.{fromCoeffs};
+ghost use Rattle.fir_theory.specs.Fir.{fromCoeffs, tapsByDefault};
 ghost use Rattle.limits.specs.Limits.{maxTaps};
+ghost use Rattle.design_cascade.specs.Design.{cascadeByDefault};
 ghost use Rattle.design_cascade.specs.LowPass.{butterworthLp, butterworthHp, chebyshev1Lp, chebyshev2Lp};
 ghost use Rattle.design_cascade.specs.BandPass.{butterworthBp};
+ghost use Rattle.design_fir.specs.Fir.{firLp};
 ghost use Rattle.c_designs.specs.Designs.{designCall, madeCall, firCall};
 use c_designs::LAST_WINDOW;
 use c_designs::hand_out;
@@ -27,7 +29,7 @@ pub extern "C" fn pulse_design_butterworth_lp(
     counts: &mut [usize],
 ) -> u8
     ensures { λ r. ⌜ record { refusal = r; numbers = now (numbers .exit); counts = now (counts .exit) }
-        ≡ designCall (butterworthLp order cutoff «sample_rate») (now (numbers .entry)) (now (counts .entry)) ⌝ }
+        ≡ designCall (cascadeByDefault (butterworthLp order cutoff «sample_rate»)) (now (numbers .entry)) (now (counts .entry)) ⌝ }
 {
     hand_out(
         design_butterworth_lp(order, cutoff, sample_rate),
@@ -46,7 +48,7 @@ pub extern "C" fn pulse_design_butterworth_hp(
     counts: &mut [usize],
 ) -> u8
     ensures { λ r. ⌜ record { refusal = r; numbers = now (numbers .exit); counts = now (counts .exit) }
-        ≡ designCall (butterworthHp order cutoff «sample_rate») (now (numbers .entry)) (now (counts .entry)) ⌝ }
+        ≡ designCall (cascadeByDefault (butterworthHp order cutoff «sample_rate»)) (now (numbers .entry)) (now (counts .entry)) ⌝ }
 {
     hand_out(
         design_butterworth_hp(order, cutoff, sample_rate),
@@ -66,7 +68,7 @@ pub extern "C" fn pulse_design_butterworth_bp(
     counts: &mut [usize],
 ) -> u8
     ensures { λ r. ⌜ record { refusal = r; numbers = now (numbers .exit); counts = now (counts .exit) }
-        ≡ designCall (butterworthBp order low high «sample_rate») (now (numbers .entry)) (now (counts .entry)) ⌝ }
+        ≡ designCall (cascadeByDefault (butterworthBp order low high «sample_rate»)) (now (numbers .entry)) (now (counts .entry)) ⌝ }
 {
     hand_out(
         design_butterworth_bp(order, low, high, sample_rate),
@@ -86,7 +88,7 @@ pub extern "C" fn pulse_design_chebyshev1_lp(
     counts: &mut [usize],
 ) -> u8
     ensures { λ r. ⌜ record { refusal = r; numbers = now (numbers .exit); counts = now (counts .exit) }
-        ≡ designCall (chebyshev1Lp order cutoff «ripple_db» «sample_rate») (now (numbers .entry)) (now (counts .entry)) ⌝ }
+        ≡ designCall (cascadeByDefault (chebyshev1Lp order cutoff «ripple_db» «sample_rate»)) (now (numbers .entry)) (now (counts .entry)) ⌝ }
 {
     hand_out(
         design_chebyshev1_lp(order, cutoff, ripple_db, sample_rate),
@@ -106,7 +108,7 @@ pub extern "C" fn pulse_design_chebyshev2_lp(
     counts: &mut [usize],
 ) -> u8
     ensures { λ r. ⌜ record { refusal = r; numbers = now (numbers .exit); counts = now (counts .exit) }
-        ≡ designCall (chebyshev2Lp order cutoff «stopband_db» «sample_rate») (now (numbers .entry)) (now (counts .entry)) ⌝ }
+        ≡ designCall (cascadeByDefault (chebyshev2Lp order cutoff «stopband_db» «sample_rate»)) (now (numbers .entry)) (now (counts .entry)) ⌝ }
 {
     hand_out(
         design_chebyshev2_lp(order, cutoff, stopband_db, sample_rate),
@@ -126,7 +128,7 @@ pub extern "C" fn pulse_design_fir_lp(
     counts: &mut [usize],
 ) -> u8
     ensures { λ r. ⌜ record { refusal = r; taps = now (taps .exit); samples = now (samples .exit); counts = now (counts .exit) }
-        ≡ firCall (now (taps .entry)) (now (samples .entry)) (now (counts .entry)) n cutoff window ⌝ }
+        ≡ firCall (now (taps .entry)) (now (samples .entry)) (now (counts .entry)) (λ w. tapsByDefault maxTaps (firLp n cutoff w)) window ⌝ }
 {
     if window > LAST_WINDOW {
         return runs::BAD_CALL;
@@ -148,7 +150,7 @@ pub extern "C" fn pulse_fir_from_coeffs(
     counts: &mut [usize],
 ) -> u8
     ensures { λ r. ⌜ record { refusal = r; taps = now (taps .exit); samples = now (samples .exit); counts = now (counts .exit) }
-        ≡ madeCall (now (taps .entry)) (now (samples .entry)) (now (counts .entry)) (fromCoeffs maxTaps (now (coeffs .entry))) ⌝ }
+        ≡ madeCall (now (taps .entry)) (now (samples .entry)) (now (counts .entry)) (tapsByDefault maxTaps (fromCoeffs maxTaps (now (coeffs .entry)))) ⌝ }
 {
     hand_out_taps(TapRecord::from_coeffs(coeffs), taps, samples, counts)
 }

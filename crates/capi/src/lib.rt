@@ -6,4 +6,5 @@ mod cascades;
 mod design;
 mod filters;
 mod pulses;
+mod raw;
 mod rival;

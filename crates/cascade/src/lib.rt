@@ -11,6 +11,7 @@ ghost use Rattle.runs.specs.Runs.{step, reset, block};
 ghost use Rattle.sections.specs.View.{sectionView};
 ghost use Rattle.pipeline.specs.View.{fourView};
 ghost use Rattle.cascade_theory.specs.Cascade.{value, moved, clouding, next, checkCascade, blankCascade, cascade};
+ghost use Rattle.cascade_theory.specs.Coefficients.{finiteCoefficients};
 ghost use Rattle.cascade_theory.specs.Skewed.{listed, Skewable};
 ghost use Rattle.cascade.specs.View.{cascadeView, updatedView, resetView, blockView};
 use pipeline::Four;
@@ -20,6 +21,7 @@ use sections::Section;
 use sections::enter;
 use sections::pass_sections;
 use sections::reset_sections;
+use sections::sections_are_finite;
 
 pub struct Cascade {
     pub sections: [Section; Cascade::MAX_SECTIONS],
@@ -96,7 +98,7 @@ impl Cascade {
     }
 
     // Whether the record passes its check. One that does not is refused by 11.
-    fn check(self) -> bool
+    pub fn check(self) -> bool
         ensures { λ r. ⌜ r ≡ checkCascade (cascadeView self) ⌝ }
     {
         if self.count > Cascade::MAX_SECTIONS {
@@ -106,6 +108,16 @@ impl Cascade {
             return true;
         }
         self.has_first
+    }
+
+    // 02's Q-3: whether the coefficients of the used parts are all finite.
+    pub fn coefficients_are_finite(self) -> bool
+        ensures { λ r. ⌜ r ≡ finiteCoefficients (cascadeView self) ⌝ }
+    {
+        let first = self.first;
+        let sections = self.sections;
+        let first_is_good = !self.has_first | first.coefficients_are_finite();
+        first_is_good & sections_are_finite(sections, self.count)
     }
 
     // The number answered to x, and the cascade with its carried values after it. The flag is as it was.

@@ -9,9 +9,11 @@ use Rattle.ieee.specs.Sqrt.{sqrtOf}
 use Rattle.runs.specs.Runs.{Answer, clear, clouded, refused, Block, step, block}
 use Rattle.cascade_theory.specs.Section.{SectionRecord, sectionOut, sectionNext}
 use Rattle.cascade_theory.specs.FirstOrder.{FirstOrderRecord, firstOut, firstNext}
+use Rattle.cascade_theory.specs.Coefficients.{coefficientsOfFirst, coefficientsOfSection}
 use Rattle.design_poles.specs.Butterworth.{lpBiquad, hpBiquad, lpFirst, hpFirst}
-use Rattle.fir_theory.specs.Fir.{TapsRecord, fir, fromCoeffs}
+use Rattle.fir_theory.specs.Fir.{TapsRecord, FirDesignRecord, fir, fromCoeffs, tapsByDefault}
 use Rattle.limits.specs.Limits.{maxTaps}
+use Rattle.design_cascade.specs.Design.{CascadeDesignRecord, cascadeByDefault}
 use Rattle.design_cascade.specs.LowPass.{butterworthLp}
 use Rattle.design_cascade.specs.BandPass.{butterworthBp}
 use Rattle.design_fir.specs.Fir.{firLp}
@@ -21,10 +23,10 @@ abbrev pub patterns : List Float → List ℕ
 patterns xs = map (toBits binary64) xs
 
 abbrev pub firstCoefficients : FirstOrderRecord → List ℕ
-firstCoefficients p = patterns (p .b0 ∷ p .b1 ∷ p .a1 ∷ [])
+firstCoefficients p = patterns (coefficientsOfFirst p)
 
 abbrev pub coefficients : SectionRecord → List ℕ
-coefficients s = patterns (s .b0 ∷ s .b1 ∷ s .b2 ∷ s .a1 ∷ s .a2 ∷ [])
+coefficients s = patterns (coefficientsOfSection s)
 
 -- what a part answers to samples one after the other
 abbrev pub firstAnswers : FirstOrderRecord → List Float → List Float
@@ -80,6 +82,17 @@ pub record Row : Type 0 where
 abbrev pub row : ℕ → List ℕ → List ℕ → Row
 row n c s = record { number = n; computed = c; stated = s }
 
+-- rows 9 to 12, of designs in one of the two forms of 02's Q-3
+abbrev pub refusedRows : (CascadeDesignRecord → CascadeDesignRecord) → (FirDesignRecord → FirDesignRecord) → Float → WindowType → List Row
+refusedRows cascade taps cutoff window =
+    -- 9. Low pass order 9, rate 0, cutoff −1: 1. 10. Low pass order 8, rate 0, any cutoff: 3. 11. Band pass order 2, 100 to 200, rate 0: 2
+    row 9 (cascade (butterworthLp 9 (neg (nat 1)) (nat 0)) .refusal ∷ []) (1 ∷ [])
+    ∷ row 10 (cascade (butterworthLp 8 cutoff (nat 0)) .refusal ∷ []) (3 ∷ [])
+    ∷ row 11 (cascade (butterworthBp 2 (nat 100) (nat 200) (nat 0)) .refusal ∷ []) (2 ∷ [])
+    -- 12. FIR with 0 or 65 taps, cutoff 0.6: 1
+    ∷ row 12 (taps (firLp 0 (nat 3 ⊘ nat 5) window) .refusal ∷ taps (firLp 65 (nat 3 ⊘ nat 5) window) .refusal ∷ []) (1 ∷ 1 ∷ [])
+    ∷ []
+
 -- row 10 speaks of any cutoff, row 12 of any window, and row 14 of an output whose two places hold anything
 abbrev pub sheet : Float → WindowType → Float → Float → List Row
 sheet cutoff window p q =
@@ -95,18 +108,16 @@ sheet cutoff window p q =
     -- 7. Taps 0.5, 0.25 on 4, 8, NaN, 4, 8: 2, 5, then two Clouded NaN, then 5 Clear
     ∷ row 7 (tapAnswers twoTaps (nat 4 ∷ nat 8 ∷ nan ∷ nat 4 ∷ nat 8 ∷ []))
     (0 ∷ two ∷ 0 ∷ five ∷ 1 ∷ notANumber ∷ 1 ∷ notANumber ∷ 0 ∷ five ∷ [])
-    -- 8. Low pass order 2, rate 1000: cutoff 500 draws 2; 499 passes the checks
+    -- 8. Low pass order 2, rate 1000: cutoff 500 draws 2; 499 passes the checks, and the raw form accepts it
     ∷ row 8 (butterworthLp 2 (nat 500) (nat 1000) .refusal ∷ butterworthLp 2 (nat 499) (nat 1000) .refusal ∷ []) (2 ∷ 0 ∷ [])
-    -- 9. Low pass order 9, rate 0, cutoff −1: 1. 10. Low pass order 8, rate 0, any cutoff: 3. 11. Band pass order 2, 100 to 200, rate 0: 2
-    ∷ row 9 (butterworthLp 9 (neg (nat 1)) (nat 0) .refusal ∷ []) (1 ∷ [])
-    ∷ row 10 (butterworthLp 8 cutoff (nat 0) .refusal ∷ []) (3 ∷ [])
-    ∷ row 11 (butterworthBp 2 (nat 100) (nat 200) (nat 0) .refusal ∷ []) (2 ∷ [])
-    -- 12. FIR with 0 or 65 taps, cutoff 0.6: 1. 13. sqrt(4) = 2; sqrt(2) = 3FF6A09E667F3BCD
-    ∷ row 12 (firLp 0 (nat 3 ⊘ nat 5) window .refusal ∷ firLp 65 (nat 3 ⊘ nat 5) window .refusal ∷ []) (1 ∷ 1 ∷ [])
-    ∷ row 13 (patterns (sqrtOf binary64 (nat 4) ∷ sqrtOf binary64 (nat 2) ∷ [])) (two ∷ 0x3FF6A09E667F3BCD ∷ [])
+    -- 9 to 12, of the raw forms
+    ∷ refusedRows (λ (d : CascadeDesignRecord). d) (λ (m : FirDesignRecord). m) cutoff window
+    ++ (
+    -- 13. sqrt(4) = 2; sqrt(2) = 3FF6A09E667F3BCD
+    row 13 (patterns (sqrtOf binary64 (nat 4) ∷ sqrtOf binary64 (nat 2) ∷ [])) (two ∷ 0x3FF6A09E667F3BCD ∷ [])
     -- 14. Three samples into an output of two: 5, both places kept
     ∷ row 14 (blockNumbers (block (fir maxTaps binary64) twoTaps (nat 4 ∷ nat 8 ∷ nat 4 ∷ []) (p ∷ q ∷ []))) (5 ∷ patterns (p ∷ q ∷ []))
-    ∷ []
+    ∷ [])
 
 -- the numbers of its rows
 abbrev pub numbers : List ℕ
@@ -117,3 +128,6 @@ pub record ReleaseSheet : Type 0 where
   pub numbered : (cutoff : Float) (window : WindowType) (p q : Float) → map (λ (r : Row). r .number) (sheet cutoff window p q) ≡ numbers
   pub holds : (cutoff : Float) (window : WindowType) (p q : Float)
       → map (λ (r : Row). r .computed) (sheet cutoff window p q) ≡ map (λ (r : Row). r .stated) (sheet cutoff window p q)
+  -- rows 9 to 12 hold of the default forms too
+  pub byDefault : (cutoff : Float) (window : WindowType) → (let rows = refusedRows cascadeByDefault (tapsByDefault maxTaps) cutoff window in
+      map (λ (r : Row). r .computed) rows ≡ map (λ (r : Row). r .stated) rows)

@@ -1,6 +1,7 @@
 // What is claimed of designs, filters and the rival's blocks. No program calls these functions: they stand for their contracts, so that the check
 // names each claim as proved.
 ghost use Rattle.claims.specs.Refused.{RefusedByCheck};
+ghost use Rattle.claims.specs.Default.{DefaultForms};
 ghost use Rattle.claims.specs.Fresh.{AcceptedIsFresh, CMadeIsFresh};
 ghost use Rattle.claims.specs.Forgetting.{CascadeRule, FirRule};
 ghost use Rattle.claims.specs.Lists.{CascadeCallsRule, FirCallsRule, CCascadeRule, CFirRule};
@@ -20,7 +21,7 @@ pub fn fir_forgets(start: TapRecord)
     ensures { λ _. ⌜ FirRule start ⌝ }
 {}
 
-// A design of any kind is refused by the number that its check gives.
+// A design of any kind is refused by the number that its check gives; by default 25 comes after every such number.
 pub fn designs_are_refused_by_their_checks()
     ensures { λ _. ⌜ RefusedByCheck ⌝ }
 {}
@@ -44,6 +45,12 @@ pub fn c_cascade_calls_forget()
 // The same on one tap record.
 pub fn c_fir_calls_forget()
     ensures { λ _. ⌜ CFirRule ⌝ }
+{}
+
+// 02's Q-3: a default form refuses as its raw form does, or else by 25 where a coefficient is not finite; what it accepts is what the raw form
+// returned.
+pub fn default_forms()
+    ensures { λ _. ⌜ DefaultForms ⌝ }
 {}
 
 // What an accepted design, set of ready-made taps or reset returns is fresh.

@@ -1,5 +1,6 @@
 // 000 butterworth.rs: the Butterworth low pass, high pass and band pass. Its checks stand in the crate design_checks, its pole
-// formulas in the crates design_poles and design_bandpass, and its sections in the crate sections.
+// formulas in the crates design_poles and design_bandpass, and its sections in the crate sections. The designs are raw forms:
+// `defaults` has the default ones.
 ghost use mathlib.Core.Path.{_≡_};
 ghost use mathlib.Core.List.{map};
 ghost use Prim.Native.Nat.{_<_, _≤_, _/_};
@@ -63,7 +64,7 @@ pub(crate) fn hp_section(order: usize, m: usize, k: f64) -> Section
 }
 
 // A low pass of order 1 to 8.
-pub fn design_butterworth_lp(order: usize, cutoff: f64, sample_rate: f64) -> CascadeDesignResult
+pub fn design_butterworth_lp_raw(order: usize, cutoff: f64, sample_rate: f64) -> CascadeDesignResult
     ensures { λ r. ⌜ designView r ≡ butterworthLp order cutoff «sample_rate» ⌝ }
 {
     let refusal = validate_params(cutoff, sample_rate, order);
@@ -75,7 +76,7 @@ pub fn design_butterworth_lp(order: usize, cutoff: f64, sample_rate: f64) -> Cas
 }
 
 // A high pass of order 1 to 8.
-pub fn design_butterworth_hp(order: usize, cutoff: f64, sample_rate: f64) -> CascadeDesignResult
+pub fn design_butterworth_hp_raw(order: usize, cutoff: f64, sample_rate: f64) -> CascadeDesignResult
     ensures { λ r. ⌜ designView r ≡ butterworthHp order cutoff «sample_rate» ⌝ }
 {
     let refusal = validate_params(cutoff, sample_rate, order);
@@ -143,7 +144,7 @@ fn bp_cascade(order: usize, omega_l: f64, omega_h: f64) -> Cascade
 }
 
 // A band pass of order 1 to 4: as many sections.
-pub fn design_butterworth_bp(
+pub fn design_butterworth_bp_raw(
     order: usize,
     low: f64,
     high: f64,

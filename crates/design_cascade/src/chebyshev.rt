@@ -1,5 +1,6 @@
 // 001 chebyshev.rs: the Chebyshev low passes of type I and type II. Its arcsinh is `hyperbolic::arcsinh`, its checks stand in
-// the crate design_checks, its pole formulas in the crate design_poles, and its sections in the crate sections.
+// the crate design_checks, its pole formulas in the crate design_poles, and its sections in the crate sections. The designs are
+// raw forms: `defaults` has the default ones.
 ghost use mathlib.Core.Path.{_≡_};
 ghost use Prim.Native.Nat.{_<_, _≤_};
 ghost use Rattle.limits.specs.Limits.{maxSections, maxOrder};
@@ -99,7 +100,7 @@ fn chebyshev2_prototype(order: usize, stopband_db: f64, k: f64) -> Prototype
 }
 
 // A type I low pass of order 1 to 8, with its ripple in decibels.
-pub fn design_chebyshev1_lp(
+pub fn design_chebyshev1_lp_raw(
     order: usize,
     cutoff: f64,
     ripple_db: f64,
@@ -116,7 +117,7 @@ pub fn design_chebyshev1_lp(
 }
 
 // A type II low pass of order 1 to 8, with its stop band's attenuation in decibels.
-pub fn design_chebyshev2_lp(
+pub fn design_chebyshev2_lp_raw(
     order: usize,
     cutoff: f64,
     stopband_db: f64,

@@ -10,7 +10,7 @@ use Rattle.scalar.specs.Constants.{one, two, half, pi, epsilon}
 use Rattle.scalar.specs.Sign.{absOf}
 use Rattle.elementary.specs.Trigonometric.{sinOf, cosOf}
 use Rattle.runs.specs.Refusals.{Accepted}
-use Rattle.fir_theory.specs.Fir.{Rectangular, Hamming, Hanning, Blackman, FirDesignRecord, blankTaps, holding}
+use Rattle.fir_theory.specs.Fir.{Rectangular, Hamming, Hanning, Blackman, FirDesignRecord, holding, refusedTaps}
 use Rattle.limits.specs.Limits.{maxTaps}
 use Rattle.design_checks.specs.Checks.{validateFir}
 use Rattle.lists.specs.Lists.{upTo}
@@ -58,5 +58,4 @@ firTaps w n cutoff =
 unfoldable pub firLp : ℕ → Float → WindowType → FirDesignRecord
 firLp n cutoff w =
     let v = validateFir n cutoff in
-    cond (eqb v Accepted) (record { refusal = Accepted; filter = holding maxTaps (firTaps w n cutoff) (codeOf w) })
-    (record { refusal = v; filter = blankTaps maxTaps })
+    cond (eqb v Accepted) (record { refusal = Accepted; filter = holding maxTaps (firTaps w n cutoff) (codeOf w) }) (refusedTaps maxTaps v)

@@ -2,10 +2,11 @@
 ghost use mathlib.Core.Path.{_≡_};
 ghost use mathlib.Core.List.{map, _++_};
 ghost use Prim.Native.Nat.{_<_, _≤_, _-_};
-ghost use lib.ListN.{length, take, drop, replicate};
+ghost use lib.ListN.{take, drop, replicate};
 ghost use Rattle.scalar.specs.Operators.{_⊘_};
 ghost use Rattle.limits.specs.Zero.{plusZero};
 ghost use Rattle.limits.specs.Limits.{maxTaps};
+ghost use Rattle.fir_theory.specs.Fir.{tapsByDefault};
 ghost use Rattle.fir.specs.View.{madeView};
 ghost use Rattle.lists.specs.Lists.{upTo};
 ghost use Rattle.design_fir.specs.Fir.{codeOf, weightOf, sincOf, tapOf, totalFrom, normalisedBy, firLp};
@@ -126,8 +127,15 @@ fn normalised(coeffs: [f64; TapRecord::MAX_TAPS], n: usize) -> [f64; TapRecord::
     coeffs
 }
 
-// A low pass of 1 to 64 taps, its cutoff a share of the rate.
+// A low pass of 1 to 64 taps, its cutoff a share of the rate. Taps that are not all finite are refused by 25, after every other check.
 pub fn design_fir_lp(taps: usize, cutoff: f64, window: WindowType) -> FirDesignResult
+    ensures { λ r. ⌜ madeView r ≡ tapsByDefault maxTaps (firLp taps cutoff window) ⌝ }
+{
+    design_fir_lp_raw(taps, cutoff, window).by_default()
+}
+
+// The same of any taps, finite or not: the Rust's design.
+pub fn design_fir_lp_raw(taps: usize, cutoff: f64, window: WindowType) -> FirDesignResult
     ensures { λ r. ⌜ madeView r ≡ firLp taps cutoff window ⌝ }
 {
     let refusal = validate_fir(taps, cutoff);

@@ -1,22 +1,22 @@
-// 01's design request: one of six kinds, each with its own parameters alone, its check, and the design of any.
+// 01's design request: one of six kinds, each with its own parameters alone, its check, and the design of any, by default and raw.
 ghost use mathlib.Core.Path.{_≡_};
 ghost use Rattle.fir.specs.View.{madeView};
 ghost use Rattle.design_cascade.specs.View.{designView};
-ghost use Rattle.design_request.specs.Request.{checkRequest, ofCascade, ofTaps, designOf};
+ghost use Rattle.design_request.specs.Request.{checkRequest, ofCascade, ofTaps, designOf, designByDefault};
 ghost use Rattle.design_request.specs.View.{designedView};
 use cascade::Cascade;
 use design_cascade::CascadeDesignResult;
-use design_cascade::design_butterworth_bp;
-use design_cascade::design_butterworth_hp;
-use design_cascade::design_butterworth_lp;
-use design_cascade::design_chebyshev1_lp;
-use design_cascade::design_chebyshev2_lp;
+use design_cascade::design_butterworth_bp_raw;
+use design_cascade::design_butterworth_hp_raw;
+use design_cascade::design_butterworth_lp_raw;
+use design_cascade::design_chebyshev1_lp_raw;
+use design_cascade::design_chebyshev2_lp_raw;
 use design_checks::validate_band;
 use design_checks::validate_chebyshev;
 use design_checks::validate_fir;
 use design_checks::validate_params;
 use design_fir::WindowType;
-use design_fir::design_fir_lp;
+use design_fir::design_fir_lp_raw;
 use fir::FirDesignResult;
 use fir::TapRecord;
 
@@ -64,7 +64,29 @@ pub struct DesignResult {
     pub filter: TapRecord,
 }
 
-// The number that refuses the request, or 0.
+impl DesignResult {
+    // 02's Q-3: by default a design whose coefficients are not all finite is refused by 25.
+    fn by_default(self) -> DesignResult
+        ensures { λ r. ⌜ designedView r ≡ designByDefault (designedView self) ⌝ }
+    {
+        if self.refusal != 0 {
+            return self;
+        }
+        let made = self.cascade;
+        let filter = self.filter;
+        if made.coefficients_are_finite() & filter.taps_are_finite() {
+            return self;
+        }
+        let blank = Cascade::blank();
+        DesignResult {
+            refusal: runs::NON_FINITE_COEFFICIENT,
+            cascade: blank,
+            filter: TapRecord::blank(),
+        }
+    }
+}
+
+// The number that a check of the parameters draws, or 0. It works out no coefficient, so it never gives 25.
 pub fn check_request(request: DesignRequest) -> u8
     ensures { λ r. ⌜ r ≡ checkRequest request ⌝ }
 {
@@ -129,8 +151,15 @@ fn of_taps(m: FirDesignResult) -> DesignResult
     }
 }
 
-// The design that is asked for.
+// The design that is asked for. One whose coefficients are not all finite is refused by 25, after every other check.
 pub fn design(request: DesignRequest) -> DesignResult
+    ensures { λ r. ⌜ designedView r ≡ designByDefault (designOf request) ⌝ }
+{
+    design_raw(request).by_default()
+}
+
+// The same of any coefficients, finite or not: the Rust's design.
+pub fn design_raw(request: DesignRequest) -> DesignResult
     ensures { λ r. ⌜ designedView r ≡ designOf request ⌝ }
 {
     match request {
@@ -138,34 +167,34 @@ pub fn design(request: DesignRequest) -> DesignResult
             order,
             cutoff,
             sample_rate,
-        } => of_cascade(design_butterworth_lp(order, cutoff, sample_rate)),
+        } => of_cascade(design_butterworth_lp_raw(order, cutoff, sample_rate)),
         DesignRequest::HighPass {
             order,
             cutoff,
             sample_rate,
-        } => of_cascade(design_butterworth_hp(order, cutoff, sample_rate)),
+        } => of_cascade(design_butterworth_hp_raw(order, cutoff, sample_rate)),
         DesignRequest::BandPass {
             order,
             low,
             high,
             sample_rate,
-        } => of_cascade(design_butterworth_bp(order, low, high, sample_rate)),
+        } => of_cascade(design_butterworth_bp_raw(order, low, high, sample_rate)),
         DesignRequest::Chebyshev1 {
             order,
             cutoff,
             ripple_db,
             sample_rate,
-        } => of_cascade(design_chebyshev1_lp(order, cutoff, ripple_db, sample_rate)),
+        } => of_cascade(design_chebyshev1_lp_raw(order, cutoff, ripple_db, sample_rate)),
         DesignRequest::Chebyshev2 {
             order,
             cutoff,
             stopband_db,
             sample_rate,
-        } => of_cascade(design_chebyshev2_lp(order, cutoff, stopband_db, sample_rate)),
+        } => of_cascade(design_chebyshev2_lp_raw(order, cutoff, stopband_db, sample_rate)),
         DesignRequest::Fir {
             taps,
             cutoff,
             window,
-        } => of_taps(design_fir_lp(taps, cutoff, window)),
+        } => of_taps(design_fir_lp_raw(taps, cutoff, window)),
     }
 }

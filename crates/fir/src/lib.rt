@@ -3,7 +3,7 @@
 ghost use mathlib.Core.Path.{_≡_};
 ghost use lib.Ieee.{binary64};
 ghost use Rattle.runs.specs.Runs.{step, reset, block};
-ghost use Rattle.fir_theory.specs.Fir.{zeros, blankTaps, fir, fromCoeffs};
+ghost use Rattle.fir_theory.specs.Fir.{finiteTaps, checkTaps, zeros, blankTaps, fir, fromCoeffs, tapsByDefault};
 ghost use Rattle.limits.specs.Limits.{maxTaps};
 ghost use Rattle.fir.specs.View.{tapsView, updatedView, resetView, blockView, madeView};
 use runs::Answer;
@@ -49,6 +49,26 @@ fn no_numbers() -> [f64; TapRecord::MAX_TAPS]
     [0.0; TapRecord::MAX_TAPS]
 }
 
+impl FirDesignResult {
+    // 02's Q-3: by default taps that are not all finite are refused by 25.
+    pub fn by_default(self) -> FirDesignResult
+        ensures { λ r. ⌜ madeView r ≡ tapsByDefault maxTaps (madeView self) ⌝ }
+    {
+        if self.refusal != 0 {
+            return self;
+        }
+        let made = self.filter;
+        if made.taps_are_finite() {
+            return self;
+        }
+        let blank = TapRecord::blank();
+        FirDesignResult {
+            refusal: runs::NON_FINITE_COEFFICIENT,
+            filter: blank,
+        }
+    }
+}
+
 impl TapRecord {
     // The most taps that a record holds.
     pub const MAX_TAPS: usize = limits::MAX_TAPS;
@@ -71,8 +91,31 @@ impl TapRecord {
         }
     }
 
-    // A record of taps given ready-made. None or more than 64 are refused by 1.
+    // Whether the record passes its check. One that does not is refused by 12.
+    pub fn check(self) -> bool
+        ensures { λ r. ⌜ r ≡ checkTaps maxTaps (tapsView self) ⌝ }
+    {
+        let window = self.window;
+        fir_step::check(self.length, self.held, window as usize)
+    }
+
+    // 02's Q-3: whether its taps are all finite.
+    pub fn taps_are_finite(self) -> bool
+        ensures { λ r. ⌜ r ≡ finiteTaps (tapsView self) ⌝ }
+    {
+        let taps = self.taps;
+        !runs::not_all_finite(&taps, self.length)
+    }
+
+    // A record of taps given ready-made. None or more than 64 are refused by 1, and taps that are not all finite by 25.
     pub fn from_coeffs(coeffs: &[f64]) -> FirDesignResult
+        ensures { λ r. ⌜ madeView r ≡ tapsByDefault maxTaps (fromCoeffs maxTaps (now (coeffs .entry))) ⌝ }
+    {
+        TapRecord::from_coeffs_raw(coeffs).by_default()
+    }
+
+    // The same of any taps, finite or not.
+    pub fn from_coeffs_raw(coeffs: &[f64]) -> FirDesignResult
         ensures { λ r. ⌜ madeView r ≡ fromCoeffs maxTaps (now (coeffs .entry)) ⌝ }
     {
         let length = coeffs.len();

@@ -134,7 +134,7 @@ fn fit(taps: &[f64], samples: &[f64]) -> bool
 }
 
 // Whether a record of these counts passes its check. One that does not is refused by 12.
-fn check(length: usize, held: usize, window: usize) -> bool
+pub fn check(length: usize, held: usize, window: usize) -> bool
     ensures { λ r. ⌜ r ≡ checkTaps maxTaps (lentTaps [] [] length held window) ⌝ }
 {
     if length < 1 {

@@ -18,8 +18,8 @@ use Rattle.runs.specs.Runs.{marked, notAllFinite}
 use Rattle.runs.specs.Forgetting.{Call, run}
 use Rattle.runs.proofs.Forgetting as runs
 use Rattle.runs.proofs.Forgetting.{Simulates}
-use Rattle.fir_theory.specs.Fir.{TapsRecord, next, heldOf, clouding, sum, value, mark, checkTaps, clearedTaps, fir}
-use Rattle.fir_theory.specs.Plain.{tapsOf, used, plainFir, FirForgets}
+use Rattle.fir_theory.specs.Fir.{TapsRecord, tapsOf, next, heldOf, clouding, sum, value, mark, checkTaps, clearedTaps, fir}
+use Rattle.fir_theory.specs.Plain.{used, plainFir, FirForgets}
 use Rattle.fir_theory.proofs.Laws.{take-pushed, length-pushed, sizes, check-next, check-cleared, sum-none}
 
 -- ---- lists

@@ -8,7 +8,8 @@ use lib.ListN.{length, take, drop, replicate}
 use lib.Ieee.{Float, Format, add, mul}
 use Rattle.runs.specs.Refusals.{Accepted, InvalidOrder, BadTaps, orderRefused}
 use Rattle.limits.specs.Zero.{plusZero}
-use Rattle.runs.specs.Runs.{notAllFinite, Filter}
+use Rattle.runs.specs.Runs.{notAllFinite, allFinite, Filter}
+use Rattle.runs.specs.Default.{byDefault}
 
 -- taps, samples, a length, a held count and a window code
 pub record TapsRecord : Type 0 where
@@ -17,6 +18,14 @@ pub record TapsRecord : Type 0 where
   pub length : ℕ
   pub held : ℕ
   pub window : ℕ
+
+-- its taps: the first of their places, as many as its length
+abbrev pub tapsOf : TapsRecord → List Float
+tapsOf r = take (r .length) (r .taps)
+
+-- 02's Q-3, ALL FINITE, of a tap record: whether its taps are. Its samples do not count
+unfoldable pub finiteTaps : TapsRecord → Bool
+finiteTaps r = allFinite (tapsOf r)
 
 -- the window codes
 abbrev pub Rectangular : ℕ
@@ -100,7 +109,14 @@ module _ (capacity : ℕ) where
   unfoldable pub holding : List Float → ℕ → TapsRecord
   holding ts window = record { taps = ts ++ replicate (capacity - length ts) plusZero; samples = zeros; length = length ts; held = 0; window = window }
 
+  -- what is refused returns its number and the blank record
+  abbrev pub refusedTaps : ℕ → FirDesignRecord
+  refusedTaps n = record { refusal = n; filter = blankTaps }
+
   -- ready-made taps
   unfoldable pub fromCoeffs : List Float → FirDesignRecord
-  fromCoeffs ts = cond (orderRefused (length ts) capacity) (record { refusal = InvalidOrder; filter = blankTaps })
-      (record { refusal = Accepted; filter = holding ts ReadyMade })
+  fromCoeffs ts = cond (orderRefused (length ts) capacity) (refusedTaps InvalidOrder) (record { refusal = Accepted; filter = holding ts ReadyMade })
+
+  -- 02's Q-3: taps, designed or ready-made, by default
+  abbrev pub tapsByDefault : FirDesignRecord → FirDesignRecord
+  tapsByDefault = byDefault (λ (m : FirDesignRecord). m .refusal) (λ (m : FirDesignRecord). finiteTaps (m .filter)) refusedTaps

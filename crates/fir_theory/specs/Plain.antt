@@ -7,18 +7,14 @@ use lib.Ieee.{Float, Format}
 use Rattle.limits.specs.Zero.{plusZero}
 use Rattle.runs.specs.Runs.{notAllFinite}
 use Rattle.runs.specs.Forgetting.{Plain, Call, Outcome, Forgets}
-use Rattle.fir_theory.specs.Fir.{TapsRecord, sum, fir}
-
--- it is fed the starting record's taps
-abbrev pub tapsOf : TapsRecord → List Float
-tapsOf r = take (r .length) (r .taps)
+use Rattle.fir_theory.specs.Fir.{TapsRecord, tapsOf, sum, fir}
 
 -- the samples that it uses: the newest, at most as many as the taps
 abbrev pub used : List Float → List Float → List Float
 used taps kept = take (length taps) kept
 
--- +0, then tap i × sample i is added, newest first, until taps or samples end; Clouded exactly when a sample so used is not finite. The samples kept are
--- enough once they are as many as the taps.
+-- It is fed the starting record's taps. +0, then tap i × sample i is added, newest first, until taps or samples end; Clouded exactly when a sample so used
+-- is not finite. The samples kept are enough once they are as many as the taps.
 abbrev pub plainFir : Format → Plain
 plainFir f = record {
   Fed = List Float;

@@ -4,28 +4,12 @@ use mathlib.Core.List.{List, [], _∷_, _++_, reverse, reverse-append}
 use Prim.Native.Nat.{ℕ, suc, _+_}
 use native.Mathlib.Omega.{arith}
 use lib.ListN.{length, replicate, length-append, length-reverse, length-replicate}
-use lib.Ieee.{Float, nan, inf, fin, add, mul}
+use lib.Ieee.{Float, nan}
 use Rattle.lists.proofs.Places.{reverse-replicate}
-use Rattle.scalar.specs.Operators.{_⊕_, _⊗_}
+use Rattle.scalar.proofs.NaN.{add-nan, nan-add, mul-nan}
 use Rattle.j211.specs.J211.{zeroHistory, outputOf, nextOf, pass, forward, backward}
 use Rattle.j211.specs.declared.Coefficients.{Coefficients}
 use Rattle.j211.specs.declared.History.{History}
-
-add-nan : (x : Float) → x ⊕ nan ≡ nan
-unfolding add
-add-nan nan = refl
-add-nan (inf s) = refl
-add-nan (fin s m e) = refl
-
-nan-add : (x : Float) → nan ⊕ x ≡ nan
-unfolding add
-nan-add x = refl
-
-mul-nan : (x : Float) → x ⊗ nan ≡ nan
-unfolding mul
-mul-nan nan = refl
-mul-nan (inf s) = refl
-mul-nan (fin s m e) = refl
 
 module _ (k : Coefficients) where
   -- the output to a NaN, and every output after one

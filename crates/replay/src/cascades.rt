@@ -10,6 +10,12 @@ use crate::compare::meets_block;
 use crate::compare::meets_refusal;
 use crate::compare::places;
 use crate::compare::word;
+use crate::forms::Form;
+use crate::forms::FormName;
+use crate::forms::behind_form;
+use crate::forms::designed;
+use crate::forms::form_of;
+use crate::forms::meets_check;
 use crate::kinds::BANDPASS;
 use crate::kinds::CBLOCK;
 use crate::kinds::CHEBYSHEV1;
@@ -70,7 +76,7 @@ fn meets_design(stored: &[u64], refusal: u8, c: Cascade) -> bool {
     meet_sections(place, stored, sections, c.count) == stored.len()
 }
 
-// What a design asks: an order, and two or three numbers.
+// What a design asks behind its form: an order, and two or three numbers.
 struct Wanted {
     order: usize,
     a: f64,
@@ -87,14 +93,32 @@ fn what(asked: &[u64]) -> Wanted {
     }
 }
 
-// The design by its own function.
-fn direct(kind: usize, w: Wanted) -> CascadeDesignResult {
+// The design by its own function, in the default form.
+fn by_default(kind: usize, w: Wanted) -> CascadeDesignResult {
     match kind {
         LOWPASS => design_cascade::design_butterworth_lp(w.order, w.a, w.b),
         HIGHPASS => design_cascade::design_butterworth_hp(w.order, w.a, w.b),
         BANDPASS => design_cascade::design_butterworth_bp(w.order, w.a, w.b, w.c),
         CHEBYSHEV1 => design_cascade::design_chebyshev1_lp(w.order, w.a, w.b, w.c),
         _ => design_cascade::design_chebyshev2_lp(w.order, w.a, w.b, w.c),
+    }
+}
+
+// The design by its own function, in the raw form.
+fn raw(kind: usize, w: Wanted) -> CascadeDesignResult {
+    match kind {
+        LOWPASS => design_cascade::design_butterworth_lp_raw(w.order, w.a, w.b),
+        HIGHPASS => design_cascade::design_butterworth_hp_raw(w.order, w.a, w.b),
+        BANDPASS => design_cascade::design_butterworth_bp_raw(w.order, w.a, w.b, w.c),
+        CHEBYSHEV1 => design_cascade::design_chebyshev1_lp_raw(w.order, w.a, w.b, w.c),
+        _ => design_cascade::design_chebyshev2_lp_raw(w.order, w.a, w.b, w.c),
+    }
+}
+
+fn direct(form: Form, kind: usize, w: Wanted) -> CascadeDesignResult {
+    match form {
+        Form::Default => by_default(kind, w),
+        Form::Raw => raw(kind, w),
     }
 }
 
@@ -133,10 +157,9 @@ fn as_request(kind: usize, w: Wanted) -> DesignRequest {
 }
 
 // Whether the request is checked and designed as stored.
-fn meets_request(stored: &[u64], request: DesignRequest) -> bool {
-    let refusal = design_request::check_request(request) as u64;
-    let d = design_request::design(request);
-    (word(stored, 0) == refusal) & meets_design(stored, d.refusal, d.cascade)
+fn meets_request(form: Form, stored: &[u64], request: DesignRequest) -> bool {
+    let d = designed(form, request);
+    meets_check(form, stored, request) & meets_design(stored, d.refusal, d.cascade)
 }
 
 // The design's cascade, and whether it is as stored too.
@@ -145,11 +168,21 @@ fn taken(d: CascadeDesignResult, stored: &[u64], agreed: &mut bool) -> Cascade {
     d.cascade
 }
 
-// A design by its own function and as a request.
-fn design(kind: usize, asked: &[u64], stored: &[u64], agreed: &mut bool) -> Cascade {
-    let w = what(asked);
-    *agreed = meets_request(stored, as_request(kind, w));
-    taken(direct(kind, w), stored, agreed)
+// A design by its own function and as a request, both in its form. Where that is none it does not agree.
+fn design(
+    kind: usize,
+    cascade: Cascade,
+    asked: &[u64],
+    stored: &[u64],
+    agreed: &mut bool,
+) -> Cascade {
+    let FormName::Form(form) = form_of(asked) else {
+        *agreed = false;
+        return cascade;
+    };
+    let w = what(behind_form(asked));
+    *agreed = meets_request(form, stored, as_request(kind, w));
+    taken(direct(form, kind, w), stored, agreed)
 }
 
 fn step(cascade: Cascade, asked: &[u64], stored: &[u64], agreed: &mut bool) -> Cascade {
@@ -186,7 +219,7 @@ pub(crate) fn request(
     agreed: &mut bool,
 ) -> Cascade {
     match kind {
-        LOWPASS..=CHEBYSHEV2 => design(kind, asked, stored, agreed),
+        LOWPASS..=CHEBYSHEV2 => design(kind, cascade, asked, stored, agreed),
         CSTEP => step(cascade, asked, stored, agreed),
         CBLOCK => block(cascade, asked, stored, agreed),
         CRESET => reset(cascade, stored, agreed),

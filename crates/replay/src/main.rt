@@ -3,6 +3,7 @@
 // makes the file.
 mod cascades;
 mod compare;
+mod forms;
 mod functions;
 mod kinds;
 mod list;

@@ -10,6 +10,12 @@ use crate::compare::meets_block;
 use crate::compare::meets_refusal;
 use crate::compare::places;
 use crate::compare::word;
+use crate::forms::Form;
+use crate::forms::FormName;
+use crate::forms::behind_form;
+use crate::forms::designed;
+use crate::forms::form_of;
+use crate::forms::meets_check;
 use crate::kinds::FBLOCK;
 use crate::kinds::FIR;
 use crate::kinds::FRESET;
@@ -40,7 +46,7 @@ fn window(code: u64) -> WindowType {
     }
 }
 
-// What a design asks: a number of taps, a cutoff and a window.
+// What a design asks behind its form: a number of taps, a cutoff and a window.
 struct Wanted {
     taps: usize,
     cutoff: f64,
@@ -56,16 +62,15 @@ fn what(asked: &[u64]) -> Wanted {
 }
 
 // Whether the design as a request is checked and designed as stored.
-fn meets_request(stored: &[u64], w: Wanted) -> bool {
+fn meets_request(form: Form, stored: &[u64], w: Wanted) -> bool {
     let window = w.window;
     let request = DesignRequest::Fir {
         taps: w.taps,
         cutoff: w.cutoff,
         window,
     };
-    let refusal = design_request::check_request(request) as u64;
-    let d = design_request::design(request);
-    (word(stored, 0) == refusal) & meets_made(stored, d.refusal, d.filter)
+    let d = designed(form, request);
+    meets_check(form, stored, request) & meets_made(stored, d.refusal, d.filter)
 }
 
 // The record that was made, and whether it is as stored too.
@@ -74,23 +79,53 @@ fn taken(m: FirDesignResult, stored: &[u64], agreed: &mut bool) -> TapRecord {
     m.filter
 }
 
-// A design by its own function and as a request.
-fn design(asked: &[u64], stored: &[u64], agreed: &mut bool) -> TapRecord {
-    let w = what(asked);
+// The design by its own function.
+fn direct(form: Form, w: Wanted) -> FirDesignResult {
     let window = w.window;
-    *agreed = meets_request(stored, w);
-    taken(
-        design_fir::design_fir_lp(w.taps, w.cutoff, window),
-        stored,
-        agreed,
-    )
+    match form {
+        Form::Default => design_fir::design_fir_lp(w.taps, w.cutoff, window),
+        Form::Raw => design_fir::design_fir_lp_raw(w.taps, w.cutoff, window),
+    }
 }
 
-fn ready_made(asked: &[u64], stored: &[u64], agreed: &mut bool) -> TapRecord {
+// A design by its own function and as a request, both in its form.
+fn design(form: Form, asked: &[u64], stored: &[u64], agreed: &mut bool) -> TapRecord {
+    let w = what(asked);
+    *agreed = meets_request(form, stored, w);
+    taken(direct(form, w), stored, agreed)
+}
+
+fn taps_of(form: Form, coeffs: &[f64]) -> FirDesignResult {
+    match form {
+        Form::Default => TapRecord::from_coeffs(coeffs),
+        Form::Raw => TapRecord::from_coeffs_raw(coeffs),
+    }
+}
+
+fn ready_made(form: Form, asked: &[u64], stored: &[u64], agreed: &mut bool) -> TapRecord {
     let n = capped(asked.len());
     let coeffs = floats(asked, 0);
     *agreed = true;
-    taken(TapRecord::from_coeffs(&coeffs[0..n]), stored, agreed)
+    taken(taps_of(form, &coeffs[0..n]), stored, agreed)
+}
+
+// A design or ready-made taps, by what is asked behind the form. Where that is none it does not agree.
+fn made(
+    kind: usize,
+    filter: TapRecord,
+    asked: &[u64],
+    stored: &[u64],
+    agreed: &mut bool,
+) -> TapRecord {
+    let FormName::Form(form) = form_of(asked) else {
+        *agreed = false;
+        return filter;
+    };
+    let asked = behind_form(asked);
+    match kind {
+        FIR => design(form, asked, stored, agreed),
+        _ => ready_made(form, asked, stored, agreed),
+    }
 }
 
 fn step(filter: TapRecord, asked: &[u64], stored: &[u64], agreed: &mut bool) -> TapRecord {
@@ -127,8 +162,7 @@ pub(crate) fn request(
     agreed: &mut bool,
 ) -> TapRecord {
     match kind {
-        FIR => design(asked, stored, agreed),
-        TAPS => ready_made(asked, stored, agreed),
+        FIR..=TAPS => made(kind, filter, asked, stored, agreed),
         FSTEP => step(filter, asked, stored, agreed),
         FBLOCK => block(filter, asked, stored, agreed),
         FRESET => reset(filter, stored, agreed),

@@ -1,7 +1,7 @@
--- Counting samples that are not finite: some sample is not finite exactly when the count is above 0.
-use mathlib.Core.Path.{_≡_, refl, sym, _∙_}
-use mathlib.Core.Bool.{Bool, true, false, not, _||_, cond, or-false, or-true}
-use mathlib.Core.List.{List}
+-- Numbers that are not finite: lists of finite ones, and counting those that are not. Some number is not finite exactly when the count is above 0.
+use mathlib.Core.Path.{_≡_, refl, sym, ap, ap₂, _∙_}
+use mathlib.Core.Bool.{Bool, true, false, not, _&&_, _||_, cond, and-true, and-assoc, or-false, or-true}
+use mathlib.Core.List.{List, [], _∷_, _++_}
 use Prim.Native.Nat.{ℕ, _+_, _<_, _≤_}
 use native.Mathlib.Nat.{add-zero}
 use native.Mathlib.Omega.{arith}
@@ -11,7 +11,30 @@ use lib.Ieee.{Float, nan}
 use lib.Ieee.Scale.{finite}
 use borrow.Author.Tests.{lt-ltb}
 use Rattle.lists.proofs.Folding.{front-turn, front-done}
-use Rattle.runs.specs.Runs.{notAllFinite}
+use Rattle.runs.specs.Runs.{notAllFinite, allFinite}
+
+-- all are finite: of one more, and of two lists
+finite-first : (b n : Bool) → not (not b || n) ≡ (b && not n)
+finite-first true n = refl
+finite-first false n = refl
+
+pub all-cons : (x : Float) (xs : List Float) → allFinite (x ∷ xs) ≡ (finite x && allFinite xs)
+unfolding notAllFinite
+all-cons x xs = finite-first (finite x) (notAllFinite xs)
+
+pub all-none : allFinite [] ≡ true
+unfolding notAllFinite
+all-none = refl
+
+pub all-append : (xs ys : List Float) → allFinite (xs ++ ys) ≡ (allFinite xs && allFinite ys)
+all-append [] ys = ap (λ (b : Bool). b && allFinite ys) (sym all-none)
+all-append (x ∷ xs) ys = all-cons x (xs ++ ys) ∙ ap (λ (b : Bool). finite x && b) (all-append xs ys) ∙ sym (and-assoc (finite x) (allFinite xs) (allFinite ys))
+    ∙ ap (λ (b : Bool). b && allFinite ys) (sym (all-cons x xs))
+
+-- a test of these, and a test of one more
+pub all-snoc : {a b : Bool} (xs : List Float) (y : Float) → a ≡ allFinite xs → b ≡ finite y → (a && b) ≡ allFinite (xs ++ y ∷ [])
+all-snoc xs y e h = let one : allFinite (y ∷ []) ≡ finite y = all-cons y [] ∙ rw all-none (and-true (finite y)) in
+    ap₂ (λ (a b : Bool). a && b) e (h ∙ sym one) ∙ sym (all-append xs (y ∷ []))
 
 -- before sample i of n: the count, and what is left to look at, tell of them all
 pub record Counting (samples : List Float) (n count i : ℕ) : Type 0 where

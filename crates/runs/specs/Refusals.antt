@@ -52,3 +52,7 @@ TruncatedBlock = 23
 -- a channel not present
 abbrev pub ChannelNotPresent : ℕ
 ChannelNotPresent = 24
+
+-- 02's Q-3: a coefficient that is not finite
+abbrev pub NonFiniteCoefficient : ℕ
+NonFiniteCoefficient = 25

@@ -54,10 +54,14 @@ written [] output = output
 written (a ∷ rest) [] = []
 written (a ∷ rest) (old ∷ output) = placed a old ∷ written rest output
 
--- whether some sample is an infinity or a NaN
+-- whether some number is an infinity or a NaN
 unfoldable pub notAllFinite : List Float → Bool
 notAllFinite [] = false
 notAllFinite (x ∷ xs) = not (finite x) || notAllFinite xs
+
+-- whether all are finite
+abbrev pub allFinite : List Float → Bool
+allFinite xs = not (notAllFinite xs)
 
 -- A filter is a kind of record and what it does.
 pub record Filter : Type 1 where

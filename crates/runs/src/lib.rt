@@ -1,4 +1,4 @@
-// What running has in common, whatever the filter: the answer to a sample, the refusal numbers, and whether samples are
+// What running has in common, whatever the filter: the answer to a sample, the refusal numbers, and whether numbers are all
 // finite. What a step, a block and a reset are, for any filter, width and capacity, stands in specs/.
 ghost use mathlib.Core.Path.{_≡_};
 ghost use mathlib.Core.Bool.{cond};
@@ -36,6 +36,9 @@ pub const INVALID_HEADER: u8 = 22;
 pub const TRUNCATED_BLOCK: u8 = 23;
 
 pub const CHANNEL_NOT_PRESENT: u8 = 24;
+
+// From 02's Q-3: a coefficient that is not finite.
+pub const NON_FINITE_COEFFICIENT: u8 = 25;
 
 // 01's run answer.
 pub enum Answer {
@@ -87,16 +90,16 @@ fn not_finite(x: f64) -> usize
     if scalar::is_finite(x) { 0 } else { 1 }
 }
 
-// Whether one of the first n samples, or of all where they are fewer, is an infinity or a NaN: such samples are counted,
+// Whether one of the first n numbers, or of all where they are fewer, is an infinity or a NaN: such numbers are counted,
 // with no way out of the loop, so that the compiler can look at several at a time.
-pub fn not_all_finite(samples: &[f64], n: usize) -> bool
-    ensures { λ r. ⌜ r ≡ notAllFinite (take n (now (samples .entry))) ⌝ }
+pub fn not_all_finite(numbers: &[f64], n: usize) -> bool
+    ensures { λ r. ⌜ r ≡ notAllFinite (take n (now (numbers .entry))) ⌝ }
 {
-    let end = if n < samples.len() { n } else { samples.len() };
+    let end = if n < numbers.len() { n } else { numbers.len() };
     let mut count: usize = 0;
     let mut i: usize = 0;
     while i < end {
-        count += not_finite(samples[i]);
+        count += not_finite(numbers[i]);
         i += 1;
     }
     count > 0

@@ -2,7 +2,10 @@
 ghost use mathlib.Core.Path.{_≡_};
 ghost use lib.Ieee.{binary64};
 ghost use Rattle.cascade_theory.specs.FirstOrder.{newFirst, identityFirst, blankFirst, clearedFirst, firstOut, firstNext};
+ghost use Rattle.cascade_theory.specs.Coefficients.{coefficientsOfFirst};
+ghost use Rattle.runs.specs.Runs.{allFinite};
 ghost use Rattle.sections.specs.View.{firstView};
+use scalar::is_finite;
 
 // Coefficients and one carried value.
 pub struct FirstOrder {
@@ -49,6 +52,13 @@ impl FirstOrder {
         let mut first = self;
         first.w = w;
         FirstOrderResult { out: y, first }
+    }
+
+    // 02's Q-3: whether its coefficients are all finite.
+    pub fn coefficients_are_finite(self) -> bool
+        ensures { λ r. ⌜ r ≡ allFinite (coefficientsOfFirst (firstView self)) ⌝ }
+    {
+        is_finite(self.b0) & is_finite(self.b1) & is_finite(self.a1)
     }
 
     // Sets the carried value to +0.

@@ -9,6 +9,7 @@ pub use parts::PassResult;
 pub use parts::enter;
 pub use parts::pass_sections;
 pub use parts::reset_sections;
+pub use parts::sections_are_finite;
 pub use section::ProcessResult;
 pub use section::Section;
 pub use section::process;

@@ -1,13 +1,16 @@
 // The parts of a cascade: a sample through the first-order part where it is used, and through as many of the four
-// sections as are counted; and the sections' reset.
+// sections as are counted; whether the counted sections' coefficients are finite; and the sections' reset.
 ghost use mathlib.Core.Path.{_≡_};
 ghost use mathlib.Core.Bool.{cond};
 ghost use mathlib.Core.List.{map};
+ghost use lib.ListN.{take};
 ghost use lib.Ieee.{binary64};
 ghost use Rattle.cascade_theory.specs.Section.{clearedSection, sectionOut, sectionNext};
 ghost use Rattle.cascade_theory.specs.FirstOrder.{firstOut, firstNext};
 ghost use Rattle.sections.specs.View.{sectionView, firstView};
 ghost use Rattle.cascade_theory.specs.Parts.{sectionsOut, sectionsNext};
+ghost use Rattle.cascade_theory.specs.Coefficients.{coefficientsOfSections};
+ghost use Rattle.runs.specs.Runs.{allFinite};
 use super::first_order::FirstOrder;
 use super::first_order::FirstOrderResult;
 use super::section::ProcessResult;
@@ -62,6 +65,26 @@ pub fn pass_sections(sections: [Section; MAX_SECTIONS], count: usize, x: f64) ->
         out: p3.out,
         sections: [s0, s1, s2, s3],
     }
+}
+
+// 02's Q-3: whether the coefficients of the first `count` sections, and of all where that is above 4, are all finite.
+pub fn sections_are_finite(sections: [Section; MAX_SECTIONS], count: usize) -> bool
+    ensures { λ r. ⌜ r ≡ allFinite (coefficientsOfSections (take count (map sectionView sections))) ⌝ }
+{
+    let end = if count < MAX_SECTIONS {
+        count
+    } else {
+        MAX_SECTIONS
+    };
+    let mut i: usize = 0;
+    while i < end {
+        let s = sections[i];
+        if !s.coefficients_are_finite() {
+            return false;
+        }
+        i += 1;
+    }
+    true
 }
 
 // All four sections with carried values +0.

@@ -2,7 +2,10 @@
 ghost use mathlib.Core.Path.{_≡_};
 ghost use lib.Ieee.{binary64};
 ghost use Rattle.cascade_theory.specs.Section.{newSection, identitySection, blankSection, clearedSection, sectionOut, sectionNext};
+ghost use Rattle.cascade_theory.specs.Coefficients.{coefficientsOfSection};
+ghost use Rattle.runs.specs.Runs.{allFinite};
 ghost use Rattle.sections.specs.View.{sectionView};
+use scalar::is_finite;
 
 // Coefficients and two carried values.
 pub struct Section {
@@ -62,6 +65,14 @@ impl Section {
         section.w1 = w1;
         section.w2 = w2;
         ProcessResult { out: y, section }
+    }
+
+    // 02's Q-3: whether its coefficients are all finite.
+    pub fn coefficients_are_finite(self) -> bool
+        ensures { λ r. ⌜ r ≡ allFinite (coefficientsOfSection (sectionView self)) ⌝ }
+    {
+        let forward = is_finite(self.b0) & is_finite(self.b1) & is_finite(self.b2);
+        forward & is_finite(self.a1) & is_finite(self.a2)
     }
 
     // Sets the carried values to +0.

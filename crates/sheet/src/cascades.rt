@@ -4,6 +4,8 @@ use super::answered::Answered;
 use super::answered::answer_fault;
 use super::answered::end_answer;
 use super::fault::Fault;
+use super::forms::Form;
+use super::forms::designed;
 use super::parameters::OrderAndFloats;
 use super::parameters::order_and_floats;
 use super::put::put_next;
@@ -12,7 +14,6 @@ use super::records::Records;
 use cascade::Cascade;
 use design_request::DesignRequest;
 use design_request::DesignResult;
-use design_request::design;
 use sections::Section;
 use text_answers::put_bytes;
 use text_answers::put_count;
@@ -122,11 +123,12 @@ fn put_design(output: &mut [u8], at: usize, d: DesignResult) -> usize {
     if d.refusal != 0 {
         return put_refused(output, at, d.refusal);
     }
-    let designed = d.cascade;
-    put_cascade(output, at, designed)
+    let cascade = d.cascade;
+    put_cascade(output, at, cascade)
 }
 
 pub(crate) fn answer_cascade(
+    form: Form,
     kind: CascadeKind,
     rest: &[u8],
     output: &mut [u8],
@@ -138,8 +140,8 @@ pub(crate) fn answer_cascade(
     let Fault::None = fault else {
         return answer_fault(fault, output, at, records);
     };
-    let d = design(requested(kind, p));
-    let designed = d.cascade;
+    let d = designed(form, requested(kind, p));
+    let cascade = d.cascade;
     let at = put_design(output, at, d);
-    end_answer(output, at, records.with_cascade(designed))
+    end_answer(output, at, records.with_cascade(cascade))
 }

@@ -3,6 +3,9 @@ use super::answered::Answered;
 use super::answered::answer_fault;
 use super::answered::end_answer;
 use super::fault::Fault;
+use super::forms::Form;
+use super::forms::designed;
+use super::forms::taps_of;
 use super::line::token_count;
 use super::parameters::MOST;
 use super::parameters::fir_parameters;
@@ -11,7 +14,6 @@ use super::put::put_floats;
 use super::put::put_refused;
 use super::records::Records;
 use design_request::DesignRequest;
-use design_request::design;
 use fir::FirDesignResult;
 use fir::TapRecord;
 use text_answers::put_bytes;
@@ -50,18 +52,25 @@ fn answer_made(made: FirDesignResult, output: &mut [u8], at: usize, records: Rec
     end_answer(output, at, records.with_filter(filter))
 }
 
-pub(crate) fn answer_fir(rest: &[u8], output: &mut [u8], at: usize, records: Records) -> Answered {
+pub(crate) fn answer_fir(
+    form: Form,
+    rest: &[u8],
+    output: &mut [u8],
+    at: usize,
+    records: Records,
+) -> Answered {
     let p = fir_parameters(rest);
     let fault = p.fault;
     let Fault::None = fault else {
         return answer_fault(fault, output, at, records);
     };
     let window = p.window;
-    let d = design(DesignRequest::Fir {
+    let request = DesignRequest::Fir {
         taps: p.taps,
         cutoff: p.cutoff,
         window,
-    });
+    };
+    let d = designed(form, request);
     let filter = d.filter;
     let made = FirDesignResult {
         filter,
@@ -72,6 +81,7 @@ pub(crate) fn answer_fir(rest: &[u8], output: &mut [u8], at: usize, records: Rec
 
 // Ready-made taps, as many as `taps` has places.
 fn answer_ready_made(
+    form: Form,
     rest: &[u8],
     taps: &mut [f64],
     output: &mut [u8],
@@ -83,14 +93,20 @@ fn answer_ready_made(
     let Fault::None = fault else {
         return answer_fault(fault, output, at, records);
     };
-    answer_made(TapRecord::from_coeffs(taps), output, at, records)
+    answer_made(taps_of(form, taps), output, at, records)
 }
 
-pub(crate) fn answer_taps(rest: &[u8], output: &mut [u8], at: usize, records: Records) -> Answered {
+pub(crate) fn answer_taps(
+    form: Form,
+    rest: &[u8],
+    output: &mut [u8],
+    at: usize,
+    records: Records,
+) -> Answered {
     let n = token_count(rest);
     if n > MOST {
         return answer_fault(Fault::TooManySamples, output, at, records);
     }
     let mut taps = [0.0; MOST];
-    answer_ready_made(rest, &mut taps[..n], output, at, records)
+    answer_ready_made(form, rest, &mut taps[..n], output, at, records)
 }

@@ -8,6 +8,7 @@ mod answered;
 mod cascades;
 mod fault;
 mod filters;
+mod forms;
 mod functions;
 mod line;
 mod parameters;

@@ -7,7 +7,7 @@ use design_fir::WindowType;
 use text_answers::next_token;
 use text_answers::same_bytes;
 
-// The designs are Cascade and Fir; Taps is ready-made taps; J211 is a pulse through a channel class,
+// The designs are Cascade and Fir; Taps is ready-made taps; Raw stands before one of these; J211 is a pulse through a channel class,
 // and Rival a channel of the rival's block.
 pub(crate) enum Request {
     Step(RecordKind),
@@ -16,6 +16,7 @@ pub(crate) enum Request {
     Cascade(CascadeKind),
     Fir,
     Taps,
+    Raw,
     J211,
     Rival,
     Function(Function),
@@ -49,7 +50,7 @@ fn place(words: &[u8], word: &[u8]) -> usize {
 
 pub(crate) fn request_of(word: &[u8]) -> Request {
     match place(
-        b"cstep fstep cblock fblock creset freset fir taps j211 rival",
+        b"cstep fstep cblock fblock creset freset fir taps raw j211 rival",
         word,
     ) {
         0 => Request::Step(RecordKind::Cascade),
@@ -60,8 +61,9 @@ pub(crate) fn request_of(word: &[u8]) -> Request {
         5 => Request::Reset(RecordKind::Filter),
         6 => Request::Fir,
         7 => Request::Taps,
-        8 => Request::J211,
-        9 => Request::Rival,
+        8 => Request::Raw,
+        9 => Request::J211,
+        10 => Request::Rival,
         _ => design_of(word),
     }
 }

@@ -71,7 +71,7 @@ pub extern "C" fn steps_cascade(
     ensures { λ r. ⌜ record { refusal = r; output = now (output .exit) }
         ≡ cascadeSteps order cutoff «sample_rate» (now (input .entry)) (now (output .entry)) ⌝ }
 {
-    let d = design_cascade::design_butterworth_lp(order, cutoff, sample_rate);
+    let d = design_cascade::design_butterworth_lp_raw(order, cutoff, sample_rate);
     let refusal = d.refusal;
     if refusal != 0 {
         return refusal;
@@ -89,7 +89,7 @@ pub extern "C" fn steps_cascade(
 pub extern "C" fn steps_fir(coeffs: &[f64], input: &[f64], output: &mut [f64]) -> u8
     ensures { λ r. ⌜ record { refusal = r; output = now (output .exit) } ≡ firSteps (now (coeffs .entry)) (now (input .entry)) (now (output .entry)) ⌝ }
 {
-    let m = TapRecord::from_coeffs(coeffs);
+    let m = TapRecord::from_coeffs_raw(coeffs);
     let refusal = m.refusal;
     if refusal != 0 {
         return refusal;

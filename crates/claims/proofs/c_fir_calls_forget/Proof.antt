@@ -6,10 +6,10 @@ use Prim.Native.Nat.{ℕ}
 use lib.Ieee.{Float, binary64}
 use Rattle.runs.specs.Forgetting.{Call, Outcome, plainRun, seen}
 use Rattle.runs.proofs.Forgetting.{forgets-shown}
-use Rattle.fir_theory.specs.Fir.{TapsRecord, fir}
+use Rattle.fir_theory.specs.Fir.{TapsRecord, tapsOf, fir}
 use Rattle.limits.specs.Limits.{maxTaps}
 use Rattle.fir_theory.proofs.Laws.{fits-lengths}
-use Rattle.fir_theory.specs.Plain.{plainFir, tapsOf, FirForgets}
+use Rattle.fir_theory.specs.Plain.{plainFir, FirForgets}
 use Rattle.fir_theory.proofs.Forgetting.{forgets}
 use Rattle.c_calls.specs.Kinds.{tapsAt, tapsFit, firKind}
 use Rattle.c_calls.specs.Lists.{CCalls}

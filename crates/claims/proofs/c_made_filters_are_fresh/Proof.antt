@@ -9,11 +9,12 @@ use lib.ListN.{length, length-append, length-replicate}
 use lib.Ieee.{Float, binary64}
 use borrow.Author.Tests.{eqb-true, eqb-false}
 use Rattle.runs.specs.Refusals.{Accepted, InvalidOrder, BadCall, orderRefused}
+use Rattle.runs.proofs.Default.{of-either}
 use Rattle.limits.specs.Zero.{plusZero}
 use Rattle.cascade_theory.specs.Section.{SectionRecord}
 use Rattle.cascade_theory.specs.Cascade.{CascadeRecord}
 use Rattle.cascade.specs.View.{FreshCascade}
-use Rattle.fir_theory.specs.Fir.{FirDesignRecord, ReadyMade, Blackman, blankTaps, holding, fromCoeffs}
+use Rattle.fir_theory.specs.Fir.{FirDesignRecord, ReadyMade, Blackman, blankTaps, holding, fromCoeffs, tapsByDefault}
 use Rattle.limits.specs.Limits.{maxSections, maxTaps}
 use Rattle.fir_theory.specs.Lent.{fits}
 use Rattle.fir_theory.proofs.Laws.{sizes, lengths-fit}
@@ -25,7 +26,7 @@ use Rattle.lists.specs.Lists.{upTo}
 use Rattle.design_fir.specs.Fir.{codeOf, firTaps, firLp}
 use Rattle.design_fir.specs.declared.WindowType.{WindowType}
 use Rattle.design_fir.proofs.Fresh.{fir-fresh}
-use Rattle.design_cascade.specs.Design.{CascadeDesignRecord, padded, unlessRefused, accepted, refusedDesign}
+use Rattle.design_cascade.specs.Design.{CascadeDesignRecord, padded, unlessRefused, accepted, refusedDesign, cascadeByDefault}
 use Rattle.design_cascade.specs.Butterworth.{warped}
 use Rattle.design_cascade.specs.Chebyshev.{cheb1Prototype, cheb2Prototype}
 use Rattle.design_cascade.specs.Prototype.{pairOf, prototypeCascade}
@@ -39,7 +40,8 @@ use Rattle.c_calls.specs.Kinds.{tapsAt, tapsCounts, tapsFit}
 use Rattle.c_calls.specs.Calls.{StoredRecord, notStored}
 use Rattle.c_designs.specs.Designs.{designCall, TapsStoredRecord, tapsPlaces, tapsUnchanged, madeCall, firCall, windowOf}
 use Rattle.c_calls.proofs.Back.{cascade-back, taps-back}
-use Rattle.claims.specs.Fresh.{CascadeMade, TapsMade}
+use Rattle.claims.specs.Fresh.{CascadeMade, TapsMade, CascadeIsMade, TapsAreMade}
+use Rattle.claims.proofs.Forms.{taps-raw, cascade-fresh, taps-fresh}
 use Rattle.claims.proofs.c_made_filters_are_fresh.Statement.{statement}
 use Rattle.claims.proofs.c_made_filters_are_fresh.Tie as tie
 
@@ -74,6 +76,14 @@ cascade-made d four fresh numbers numbers′ counts counts′ e = go (cascadePla
         let ec : counts′ ≡ cascadeCounts (d .cascade) = ap (λ (s : StoredRecord). s .counts) z in
         (ap₂ cascadeFits en ec ∙ back .1, rw (en, ec, back .0) (fresh (eqb-true (d .refusal) 0 q)))
 
+-- in both forms: what is refused by 25 is blank, and has as many sections too
+cascade-is-made : (d : CascadeDesignRecord) → length (d .cascade .sections) ≡ maxSections → (d .refusal ≡ 0 → FreshCascade (d .cascade)) → CascadeIsMade d
+cascade-is-made d four fresh = record {
+  raw = cascade-made d four fresh;
+  byDefault = cascade-made (cascadeByDefault d) (of-either _ _ _ d (λ (r : CascadeDesignRecord). length (r .cascade .sections) ≡ maxSections) four refl)
+      (cascade-fresh d fresh .byDefault);
+}
+
 padded-length : (p : ℕ) (ss : List SectionRecord) → length (padded p ss) ≡ p
 unfolding padded
 padded-length zero ss = refl
@@ -89,15 +99,15 @@ four-sections v c h = go (eqb v 0)
 
 -- the designs of poles, and the band pass
 prototype-made : (v : ℕ) (p : Prototype) (n : ℕ) (d : CascadeDesignRecord) → d ≡ unlessRefused v (prototypeCascade p n)
-    → (d .refusal ≡ 0 → FreshCascade (d .cascade)) → CascadeMade d
+    → (d .refusal ≡ 0 → FreshCascade (d .cascade)) → CascadeIsMade d
 unfolding prototypeCascade
-prototype-made v p n d e fresh = cascade-made d (ap (λ (r : CascadeDesignRecord). length (r .cascade .sections)) e
+prototype-made v p n d e fresh = cascade-is-made d (ap (λ (r : CascadeDesignRecord). length (r .cascade .sections)) e
     ∙ four-sections v (prototypeCascade p n) (padded-length maxSections (upTo (pairOf p n) (n / 2)))) fresh
 
 band-made : (v n : ℕ) (wl wh : Float) (d : CascadeDesignRecord) → d ≡ unlessRefused v (bpCascade n wl wh) → (d .refusal ≡ 0 → FreshCascade (d .cascade))
-    → CascadeMade d
+    → CascadeIsMade d
 unfolding bpCascade
-band-made v n wl wh d e fresh = cascade-made d (ap (λ (r : CascadeDesignRecord). length (r .cascade .sections)) e
+band-made v n wl wh d e fresh = cascade-is-made d (ap (λ (r : CascadeDesignRecord). length (r .cascade .sections)) e
     ∙ four-sections v (bpCascade n wl wh) (padded-length maxSections (bpSections n (wh ⊖ wl) (wl ⊗ wh)))) fresh
 
 -- ---- tap records
@@ -157,20 +167,38 @@ designed-is n cutoff w = go (eqb (validateFir n cutoff) 0) refl
     go true e r = refl
     go false e r = absurd (eqb-false (validateFir n cutoff) 0 e r)
 
-designed-made : (n : ℕ) (cutoff : Float) (window : ℕ) → TapsMade (λ taps samples counts. firCall taps samples counts n cutoff window)
+-- a result in both forms
+both-made : (m : FirDesignRecord) (ts : List Float) (w : ℕ) → (m .refusal ≡ 0 → m .filter ≡ holding maxTaps ts w) → (m .refusal ≡ 0 → FreshTaps (m .filter))
+    → TapsAreMade (λ form taps samples counts. madeCall taps samples counts (form m))
+both-made m ts w is fresh = record {
+  raw = taps-made m ts w is fresh;
+  byDefault = taps-made (tapsByDefault maxTaps m) ts w
+      (λ h. let e = taps-raw m h in ap (λ (r : FirDesignRecord). r .filter) e ∙ is (ap (λ (r : FirDesignRecord). r .refusal) (sym e) ∙ h))
+      (taps-fresh m fresh .byDefault);
+}
+
+-- by the window's code
+by-code : (made : WindowType → FirDesignRecord) (window : ℕ) → TapsMade (λ taps samples counts. madeCall taps samples counts (made (windowOf window)))
+    → TapsMade (λ taps samples counts. firCall taps samples counts made window)
 unfolding firCall
-designed-made n cutoff window taps taps′ samples samples′ counts counts′ e = go (leb window Blackman) refl
+by-code made window f taps taps′ samples samples′ counts counts′ e = go (leb window Blackman) refl
   where
     called : Bool → TapsStoredRecord
-    called b = cond b (madeCall taps samples counts (firLp n cutoff (windowOf window))) (tapsUnchanged taps samples counts BadCall)
+    called b = cond b (madeCall taps samples counts (made (windowOf window))) (tapsUnchanged taps samples counts BadCall)
 
     go : (b : Bool) → leb window Blackman ≡ b → (tapsFit taps′ samples′ counts′ ≡ true) × FreshTaps (tapsAt taps′ samples′ counts′)
-    go true p =
-        let m = firLp n cutoff (windowOf window) in
-        taps-made m (firTaps (windowOf window) n cutoff) (codeOf (windowOf window)) (designed-is n cutoff (windowOf window))
-        (fir-fresh n cutoff (windowOf window)) taps taps′ samples samples′ counts counts′
-        (e ∙ ap called p)
+    go true p = f taps taps′ samples samples′ counts counts′ (e ∙ ap called p)
     go false p = absurd (accepted-bad (ap (λ (z : TapsStoredRecord). z .refusal) (e ∙ ap called p)))
+
+designed-made : (n : ℕ) (cutoff : Float) (window : ℕ) → TapsAreMade (λ form taps samples counts.
+    firCall taps samples counts (λ w. form (firLp n cutoff w)) window)
+designed-made n cutoff window =
+    let w = windowOf window in
+    let both = both-made (firLp n cutoff w) (firTaps w n cutoff) (codeOf w) (designed-is n cutoff w) (fir-fresh n cutoff w) in
+    record {
+      raw = by-code (firLp n cutoff) window (both .raw);
+      byDefault = by-code (λ w. tapsByDefault maxTaps (firLp n cutoff w)) window (both .byDefault);
+    }
 
 returns : tie.Need-returns
 unfolding butterworthLp butterworthHp chebyshev1Lp chebyshev2Lp butterworthBp
@@ -184,7 +212,7 @@ returns c = record {
       (chebyshev2-fresh n cutoff db rate);
   bandPass = λ n low high rate. band-made (validateBand low high rate n) n (warped low rate) (warped high rate) _ refl (bandpass-fresh n low high rate);
   firLowPass = designed-made;
-  readyMade = λ coeffs. taps-made (fromCoeffs maxTaps coeffs) coeffs ReadyMade (ready-is coeffs) (ready-made-fresh maxTaps binary64 coeffs);
+  readyMade = λ coeffs. both-made (fromCoeffs maxTaps coeffs) coeffs ReadyMade (ready-is coeffs) (ready-made-fresh maxTaps binary64 coeffs);
 }
 
 pub c-made-filters-are-fresh-spec : {M : Type 1} → statement M

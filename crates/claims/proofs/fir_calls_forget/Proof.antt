@@ -6,11 +6,11 @@ use lib.Ieee.{binary64}
 use borrow.Author.Needs.{needs}
 use Rattle.runs.specs.Forgetting.{Call, Outcome, run}
 use Rattle.runs.proofs.Forgetting.{forgets-shown, run-step, run-block, run-reset}
-use Rattle.fir_theory.specs.Fir.{fir}
+use Rattle.fir_theory.specs.Fir.{tapsOf, fir}
 use Rattle.limits.specs.Limits.{maxTaps}
 use Rattle.fir.specs.View.{tapsView}
 use Rattle.fir.specs.declared.TapRecord.{TapRecord}
-use Rattle.fir_theory.specs.Plain.{plainFir, tapsOf}
+use Rattle.fir_theory.specs.Plain.{plainFir}
 use Rattle.fir_theory.proofs.Forgetting.{forgets}
 use Rattle.claims.specs.Lists.{FirCalls, firEnded, firUpdateCalled, firBlockCalled, firResetCalled}
 use Rattle.claims.proofs.fir_calls_forget.Statement.{statement}

@@ -1,37 +1,11 @@
 -- `design_request::design` meets its contract.
-use mathlib.Core.Path.{_∙_, ap, sym}
-use Rattle.design_request.specs.Request.{ofCascade, ofTaps, designOf}
+use mathlib.Core.Path.{ap, _∙_}
+use Rattle.design_request.specs.Request.{designByDefault}
 use borrow.Author.Needs.{needs}
 use Rattle.design_request.proofs.design.Statement.{statement}
 use Rattle.design_request.proofs.design.Tie as tie
 
-returns : tie.Need-returns
-returns c = c .of-cascade .ensures ∙ ap ofCascade (c .before .design-butterworth-lp .ensures) ∙ sym (ap designOf (c .before .before .before .request .given .1))
-
-returns-2 : tie.Need-returns-2
-returns-2 c = c .of-cascade2 .ensures ∙ ap ofCascade (c .before .design-butterworth-hp .ensures)
-    ∙ sym (ap designOf (c .before .before .before .request2 .given .1))
-
-returns-3 : tie.Need-returns-3
-returns-3 c = c .of-cascade3 .ensures ∙ ap ofCascade (c .before .design-butterworth-bp .ensures)
-    ∙ sym (ap designOf (c .before .before .before .request3 .given .1))
-
-returns-4 : tie.Need-returns-4
-returns-4 c = c .of-cascade4 .ensures ∙ ap ofCascade (c .before .design-chebyshev1-lp .ensures)
-    ∙ sym (ap designOf (c .before .before .before .request4 .given .1))
-
-returns-5 : tie.Need-returns-5
-returns-5 c = c .of-cascade5 .ensures ∙ ap ofCascade (c .before .design-chebyshev2-lp .ensures)
-    ∙ sym (ap designOf (c .before .before .before .request5 .given .1))
-
-returns-6 : tie.Need-returns-6
-returns-6 c = c .of-taps .ensures ∙ ap ofTaps (c .before .design-fir-lp .ensures) ∙ sym (ap designOf (c .before .before .before .request6 .given .1))
-
 pub design-spec : {M : Type 1} → statement M
 design-spec =
     tie.close
-    (tie.spec (λ c. search needs) (λ c κs. search needs) (λ c κs. search needs) (λ c. search needs) (λ c κs. search needs)
-    (λ c κs. search needs) (λ c. search needs) (λ c κs. search needs) (λ c κs. search needs) (λ c. search needs) (λ c κs. search needs)
-    (λ c κs. search needs) (λ c. search needs) (λ c κs. search needs) (λ c κs. search needs) (λ c. search needs) (λ c κs. search needs)
-    (λ c κs. search needs) returns returns-2 returns-3 returns-4 returns-5
-    returns-6)
+    (tie.spec (λ c κs. search needs) (λ c κs. search needs) (λ c. c .by-default .ensures ∙ ap designByDefault (c .before .design-raw .ensures)))

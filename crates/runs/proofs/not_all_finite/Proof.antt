@@ -14,16 +14,16 @@ use Rattle.runs.proofs.not_all_finite.Statement.{statement}
 use Rattle.runs.proofs.not_all_finite.Tie as tie
 
 abbrev Inv-loop : tie.InvT-loop
-Inv-loop samples n end count₀ i₀ count i =
-    (end ≤ length samples) × (i ≤ end) × (take end samples ≡ take n samples) × Counting samples end count i
+Inv-loop numbers n end count₀ i₀ count i =
+    (end ≤ length numbers) × (i ≤ end) × (take end numbers ≡ take n numbers) × Counting numbers end count i
 
 abbrev μ-loop : tie.MeasureT-loop
-μ-loop samples n end count₀ i₀ count i = end - i
+μ-loop numbers n end count₀ i₀ count i = end - i
 
 loop-holds : tie.Need-loop-holds Inv-loop μ-loop
 loop-holds c =
     let a = c .before .before .args in
-    let l = a .samples .now in
+    let l = a .numbers .now in
     let whole : length l ≤ a .n → take (length l) l ≡ take (a .n) l = λ h. take-length l ∙ sym (take-all (a .n) l h) in
     ⊎-elim (λ w. (omega arith, omega arith, ap (λ (k : ℕ). take k l) (w .1), count-start _ _))
     (λ w. (omega arith, omega arith, ap (λ (k : ℕ). take k l) (w .1) ∙ whole (w .0 .left), count-start _ _)) (c .if1 .came)
@@ -31,7 +31,7 @@ loop-holds c =
 add-count : tie.Need-add-count Inv-loop μ-loop
 add-count c = let l : tie.At-loop Inv-loop μ-loop = search in
     let start : tie.Start Inv-loop μ-loop = search in
-    omega (arith, c .not-finite .ensures, at-most-one (finite (getD (start .args .samples .now) (l .loop .i) nan)))
+    omega (arith, c .not-finite .ensures, at-most-one (finite (getD (start .args .numbers .now) (l .loop .i) nan)))
 
 loop-again : tie.Need-loop-again Inv-loop μ-loop
 loop-again c = let l = c .before .before .before .loop in

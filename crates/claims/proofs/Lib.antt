@@ -1,0 +1,2 @@
+-- Forms: default forms beside raw ones.
+pub mod Forms
