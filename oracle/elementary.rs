@@ -1,4 +1,5 @@
-// A scalar with f64 arithmetic whose elementary functions are those of 01 "Elementary functions", written from its text.
+// A scalar with f64 arithmetic whose elementary functions are those of 01 "Elementary functions", with sinh by 02's Q-4, written
+// from their text.
 use crate::core::scalar::ControlScalar;
 use num_traits::{Float, Num, NumCast, One, ToPrimitive, Zero};
 use std::fmt;
@@ -54,13 +55,22 @@ const fn logarithm() -> [f64; 11] {
     }
     series
 }
+const fn hyperbolic_sine() -> [f64; 8] {
+    let (mut series, mut i) = ([0.0; 8], 0);
+    while i < 8 {
+        series[i] = 1.0 / factorial(3 + 2 * i);
+        i += 1;
+    }
+    series
+}
 const SINE: [f64; 8] = alternating(3);
 const COSINE: [f64; 8] = alternating(2);
 const EXPONENTIAL: [f64; 14] = exponential();
 const LOGARITHM: [f64; 11] = logarithm();
+const HYPERBOLIC_SINE: [f64; 8] = hyperbolic_sine();
 
-/// q modulo 4, S and C; nothing for an angle that is not finite or above 128. Never inlined, nor exp and ln, so that the
-/// compiler does not work out a design's constant angles beforehand and bench/ measures the functions.
+/// q modulo 4, S and C; nothing for an angle that is not finite or above 128. Never inlined, nor exp, ln and sinh, so that
+/// the compiler does not work out a design's constant angles beforehand and bench/ measures the functions.
 #[inline(never)]
 fn turn(x: f64) -> Option<(i64, f64, f64)> {
     if !(x.abs() <= 128.0) {
@@ -147,7 +157,13 @@ pub fn ln(x: f64) -> f64 {
     e * b(0x3FE62E42FEE00000) + ((2.0 * f) * horner(s, &LOGARITHM) + e * b(0x3DEA39EF35793C76))
 }
 
+/// Below 1 in magnitude by 02's Q-4, elsewhere (NaN included) by 01.
+#[inline(never)]
 pub fn sinh(a: f64) -> f64 {
+    if a.abs() < 1.0 {
+        let s = a * a;
+        return a + (a * s) * horner(s, &HYPERBOLIC_SINE);
+    }
     (exp(a) - exp(-a)) * 0.5
 }
 

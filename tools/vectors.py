@@ -3,9 +3,10 @@
 
 Usage, from the repository's root: tools/vectors.py [--check]. --check writes nothing and fails where a file differs.
 
-The answers are computed from the text of ../shared/01-scope.md, "Elementary functions", and from nothing of the Rattle
-code: each operation is done exactly, on Python's fractions, and rounded once by `rounded` below. No float of Python's
-takes part in an answer; they are used only to check `rounded` against the machine's own arithmetic (`check_machine`).
+The answers are computed from the text of ../shared/01-scope.md, "Elementary functions", and of Q-4 of
+../shared/02-change-requests.md, which alters sinh, and from nothing of the Rattle code: each operation is done exactly, on
+Python's fractions, and rounded once by `rounded` below. No float of Python's takes part in an answer; they are used only to
+choose inputs and to check `rounded` against the machine's own arithmetic (`check_machine`).
 """
 import math
 import random
@@ -117,7 +118,7 @@ def below(a, b):
     return key(a) < key(b)
 
 
-# ---- 01 "Elementary functions"
+# ---- 01 "Elementary functions"; sinh by 02's Q-4 too
 ONE, TWO, HALF = 0x3FF0 << 48, 0x4000 << 48, 0x3FE0 << 48
 LN_2, LN_2_HIGH, LN_2_LOW = 0x3FE62E42FEFA39EF, 0x3FE62E42FEE00000, 0x3DEA39EF35793C76
 
@@ -218,6 +219,10 @@ def ln(x):
 
 
 def sinh(a):
+    if below(absolute(a), ONE):
+        s = mul(a, a)
+        p = horner(s, [over_factorial(k) for k in range(3, 18, 2)])
+        return add(a, mul(mul(a, s), p))
     return mul(sub(exp(a), exp(neg(a))), HALF)
 
 
@@ -261,8 +266,14 @@ def inputs():
     logs = around(0x3FF6A09E667F3BCD, ONE, TWO) + [of(x) for x in (10.0, 0.1, 1e-308, 5e-324, 3e-310, 1e308, -1.0, 2.718281828459045)]
     roots = around(TWO, of(4.0), of(0.1)) + [of(x) for x in (9.0, 0.25, 1e-320, 5e-310, 1e308, -1.0, -1e-310, 1.5, 2.0 ** 1023)] + [(1 << 51) + 1, 2, 3]
     hyper = around(of(709.0), of(-709.0), of(708.0)) + [of(x) for x in (0.1, -0.3, 1e-10, 20.0, -20.0, 1e154, 1e-160)]
+    # For 02's Q-4: about 1, where sinh's rule changes, and below.
+    small = around(ONE, of(2.0 ** -27)) + [1, 2, 3, (1 << 52) - 1, 1 << 52]
+    small += [of(x) for x in (0.001, 0.01, 0.03, 0.1, 0.2, 0.25, 0.3, 0.4, 0.5, 0.6, 0.7, 0.8, 0.9, 0.95, 0.999, 1.5)]
+    # At these the old rule, a term more, or 1/3!, 1/5! or 1/7! with another last bit would show.
+    small += [ONE - 4, 0x3FEC92908796332C, 0x3FEFFC81FE83923D]
+    small = [s | b for b in small for s in (0, SIGN)]
     own = {sqrt: roots, absolute: [of(-3.5)], max_zero: [of(-3.5), of(3.5)], sin: angles, cos: angles, tan: angles, exp: powers, pow10: tens,
-           ln: logs, sinh: hyper, cosh: hyper, arcsinh: hyper}
+           ln: logs, sinh: hyper + small, cosh: hyper + small, arcsinh: hyper}
     dice = random.Random(1)
     for place, f in enumerate(FUNCTIONS):
         more = [of(dice.uniform(-20.0, 20.0)) for _ in range(4)] + [dice.getrandbits(62) for _ in range(4)]
