@@ -4,7 +4,7 @@ use Prim.Native.Nat.{ℕ, zero, suc, _+_, _-_, _*_, _≤_, _<_}
 use native.Mathlib.Omega.{arith}
 use lib.Ieee.{Float}
 use Rattle.scalar.specs.Operators.{_⊕_, _⊗_}
-use Rattle.series.specs.Series.{horner, invFact, inv, expSeries, lnSeries}
+use Rattle.series.specs.Series.{horner, invFact, inv, expSeries, lnSeries, sinhSum}
 
 -- with coefficients c j, c (j + 1), to c (j + n)
 unfoldable pub from : (ℕ → Float) → Float → ℕ → ℕ → Float
@@ -24,19 +24,52 @@ pub exp-all : (r : Float) → from invFact r 13 0 ≡ expSeries r
 unfolding from expSeries horner
 exp-all r = refl
 
--- the coefficients of ln: 1/(2 * j + 1)
-unfoldable pub odds : ℕ → Float
-odds j = inv (2 * j + 1)
+-- the coefficients g b, g (b + 2), g (b + 4), and so on
+unfoldable pub everySecond : (ℕ → Float) → ℕ → ℕ → Float
+everySecond g b j = g (2 * j + b)
 
-pub ln-all : (s : Float) → from odds s 10 0 ≡ lnSeries s
-unfolding from odds lnSeries horner
+-- What the loop over the numbers b + 2 * n, down to b by two, has summed at k: the coefficients from g k on.
+pub record Summed (g : ℕ → Float) (b n : ℕ) (s p : Float) (k : ℕ) : Type 0 where
+  pub i : ℕ
+  pub number : k ≡ 2 * i + b
+  pub within : i ≤ n
+  pub sum : p ≡ from (everySecond g b) s (n - i) i
+
+pub summed-start : (g : ℕ → Float) (b n : ℕ) (s p : Float) (k : ℕ) → k ≡ 2 * n + b → p ≡ g k → Summed g b n s p k
+unfolding everySecond
+summed-start g b n s p k e f = record {
+  i = n;
+  number = e;
+  within = omega arith;
+  sum = f ∙ ap g e ∙ from-zero (everySecond g b) s n ∙ ap (λ (m : ℕ). from (everySecond g b) s m n) (omega arith);
+}
+
+turn-at : (g : ℕ → Float) (b n : ℕ) (s p : Float) (k i : ℕ) → k ≡ 2 * i + b → i ≤ n → p ≡ from (everySecond g b) s (n - i) i → b < k
+    → Summed g b n s (g (k - 2) ⊕ s ⊗ p) (k - 2)
+unfolding everySecond
+turn-at g b n s p k zero e l q h = absurd (omega arith)
+turn-at g b n s p k (suc j) e l q h =
+    let m : k - 2 ≡ 2 * j + b = omega arith in
+    record {
+      i = j;
+      number = m;
+      within = omega arith;
+      sum = ap (λ (z : ℕ). g z ⊕ s ⊗ p) m ∙ from-turn (everySecond g b) s p (n - suc j) (suc j) j (n - j) q refl (omega arith);
+    }
+
+pub summed-turn : (g : ℕ → Float) (b n : ℕ) (s p : Float) (k : ℕ) → Summed g b n s p k → b < k → Summed g b n s (g (k - 2) ⊕ s ⊗ p) (k - 2)
+summed-turn g b n s p k h l = turn-at g b n s p k (h .i) (h .number) (h .within) (h .sum) l
+
+pub summed-done : (g : ℕ → Float) (b n : ℕ) (s p : Float) (k : ℕ) → Summed g b n s p k → k ≤ b → p ≡ from (everySecond g b) s n 0
+summed-done g b n s p k h l =
+    let z : h .i ≡ 0 = omega (arith, h .number) in
+    let all : n - h .i ≡ n = omega arith in
+    h .sum ∙ ap (λ (m : ℕ). from (everySecond g b) s m (h .i)) all ∙ ap (λ (i : ℕ). from (everySecond g b) s n i) z
+
+pub ln-all : (s : Float) → from (everySecond inv 1) s 10 0 ≡ lnSeries s
+unfolding from everySecond lnSeries horner
 ln-all s = refl
 
--- one turn of the loop over the odd numbers k = 2 * i + 1
-pub ln-turn : (s p : Float) (k i : ℕ) → k ≡ 2 * i + 1 → i ≤ 10 → p ≡ from odds s (10 - i) i → 1 < k
-    → (j : ℕ) × (k - 2 ≡ 2 * j + 1) × (j ≤ 10) × (inv (k - 2) ⊕ s ⊗ p ≡ from odds s (10 - j) j)
-unfolding odds
-ln-turn s p k zero e l q h = absurd (omega arith)
-ln-turn s p k (suc j) e l q h =
-    let n : k - 2 ≡ 2 * j + 1 = omega arith in
-    (j, n, omega arith, ap (λ (z : ℕ). inv z ⊕ s ⊗ p) n ∙ from-turn odds s p (10 - suc j) (suc j) j (10 - j) q refl (omega arith))
+pub sinh-all : (s : Float) → from (everySecond invFact 3) s 7 0 ≡ sinhSum s
+unfolding from everySecond sinhSum horner
+sinh-all s = refl
