@@ -20,6 +20,17 @@ const EDGES: [f64; 20] = [
     0.0, 5e-324, 2.225073858507201e-308, f64::MIN_POSITIVE, 1e-300, f64::EPSILON, f64::EPSILON / 2.0, 0.25, 0.5, 1.0, 2.0, 3.0, 128.0, 307.0,
     708.0, 709.0, 4503599627370496.0, 1e300, f64::MAX, f64::INFINITY,
 ];
+/// Decibels where a of 001, of which sinh is asked, is 1, at orders 1 to 8: 20 × log10 of coth N for Chebyshev I, of cosh N for II.
+const UNIT_DECIBELS: [[f64; 8]; 2] = [
+    [
+        2.365527942836689, 0.31821082187290123, 0.043060423884215576, 0.005827582945915684, 0.0007886775595275571, 0.00010673590082903252,
+        1.4445133370033675e-05, 1.9549362160237108e-06,
+    ],
+    [
+        3.767772420683772, 11.50882763368338, 20.05857252880041, 28.725871941719397, 37.409242606873846, 46.094791282897056,
+        54.780634775739316, 63.466518168708724,
+    ],
+];
 const ROOT_2: f64 = std::f64::consts::SQRT_2;
 const UNKNOWN: [&str; 12] = ["Lowpass", "low", "cste", "cstepp", "step", "block", "SQRT", "sq", "tap", "error", "4", "-"];
 const BAD: [&str; 30] = [
@@ -230,6 +241,7 @@ impl<W: Write> Maker<W> {
                 self.dice.near(point)
             }
             4 => self.dice.within(1.0),
+            5 | 6 if matches!(name, "sinh" | "cosh") => self.small(),
             _ => self.dice.within(span),
         };
         self.bits(x)
@@ -247,6 +259,18 @@ impl<W: Write> Maker<W> {
             3 => 1.0 + self.dice.within(0.01),
             _ => f64::from_bits(self.dice.below(0x7FF0000000000000)),
         }
+    }
+
+    /// For sinh and cosh: next to 1, where 02's Q-4 changes sinh's rule, or to a power of 2 below it; or of any size from 2^-60 to 2.
+    fn small(&mut self) -> f64 {
+        let power = 2f64.powi(-(self.dice.from(0, 60) as i32));
+        let x = match self.dice.below(4) {
+            0 => self.dice.near(1.0),
+            1 => self.dice.near(power),
+            2 => power * (1.0 + self.dice.unit()),
+            _ => 2.0 * self.dice.unit(),
+        };
+        self.dice.signed(x)
     }
 
     fn order(&mut self, most: u64) -> u64 {
@@ -308,12 +332,19 @@ impl<W: Write> Maker<W> {
         }
     }
 
-    fn decibels(&mut self) -> Number {
+    fn decibels(&mut self, kind: &str, order: u64) -> Number {
         match self.dice.below(8) {
             0 => Bits(self.dice.pick(&[0.0, -0.0, -1.0, 3e-16, 1e-300, 400.0, 3070.0, 3079.0, 3080.0, f64::INFINITY, f64::NEG_INFINITY, f64::NAN])),
             1 => Bits(self.dice.wild()),
-            2 | 3 => Bits(120.0 * self.dice.unit()),
+            // Usual, and beyond where a of Chebyshev I is 0.
+            2 | 3 => Bits(self.dice.pick(&[120.0, 360.0]) * self.dice.unit()),
             4 if self.dice.one_in(2) => Bits(self.extreme_decibels()),
+            4 => Bits((1.0 + self.dice.unit()) * 2f64.powi(-(self.dice.from(1, 52) as i32))),
+            // About where a is 1, at any distance.
+            5 => {
+                let distance = 2f64.powi(-(self.dice.from(0, 52) as i32));
+                Bits(unit_decibels(kind, order) * (1.0 + self.dice.within(distance)))
+            }
             _ => Digits(self.dice.from(1, 10000), 2),
         }
     }
@@ -343,7 +374,7 @@ impl<W: Write> Maker<W> {
         self.form();
         let kind = self.dice.pick(&PASSES);
         let order = self.order(if kind == "bandpass" { 4 } else { 8 });
-        let (frequencies, decibels) = (self.frequencies(), self.decibels());
+        let (frequencies, decibels) = (self.frequencies(), self.decibels(kind, order));
         self.pass(kind, order, frequencies, decibels)
     }
 
@@ -729,6 +760,7 @@ impl<W: Write> Maker<W> {
                 }
             }
         }
+        self.sweep_hyperbolic();
         for kind in PASSES {
             for order in (0..=10).chain([16, 256, 999999999]) {
                 self.at_order(kind, order);
@@ -742,6 +774,29 @@ impl<W: Write> Maker<W> {
         self.sweep_class_errors();
         self.sweep_rivals();
         self.sweep_forms();
+    }
+
+    /// What 02's Q-4 changes. sinh, and cosh, which stays: at 0, the smallest numbers, 2^-54, 2^-27 and 1, with their neighbours.
+    /// Chebyshev designs of each order whose a is below, about and above 1, and 02's own example.
+    fn sweep_hyperbolic(&mut self) {
+        let around = [-54, -27, 0].map(|k| 2f64.powi(k).to_bits()).into_iter().flat_map(|b| [b - 1, b, b + 1]);
+        for x in (0..=3).chain(around).map(f64::from_bits) {
+            for (name, x) in [("sinh", x), ("sinh", -x), ("cosh", x), ("cosh", -x)] {
+                self.word(name);
+                self.bits(x);
+                self.end();
+            }
+        }
+        for kind in ["chebyshev1", "chebyshev2"] {
+            for order in 1..=8 {
+                for factor in [0.99, 1.0, 1.01] {
+                    let decibels = Bits(unit_decibels(kind, order) * factor);
+                    self.pass(kind, order, [Digits(1000, 0), Digits(0, 0), Digits(10000, 0)], decibels);
+                    self.both();
+                }
+            }
+            self.lines(&[&format!("{kind} 8 1000 3 10000"), "cstep 1"]);
+        }
     }
 
     /// Good and bad tokens in several places, ends of lines, comments, too many samples, lines about the longest.
@@ -795,7 +850,7 @@ impl<W: Write> Maker<W> {
                 match kind {
                     "bandpass" => self.bits(f64::from_bits(cutoff.to_bits() + 1)),
                     "chebyshev1" | "chebyshev2" => {
-                        let decibels = self.decibels();
+                        let decibels = self.decibels(kind, order);
                         self.number(decibels)
                     }
                     _ => {}
@@ -887,6 +942,10 @@ impl<W: Write> Maker<W> {
         self.j211(60, Digits(10000, 0), 257, 1_000_000);
         self.end();
     }
+}
+
+fn unit_decibels(kind: &str, order: u64) -> f64 {
+    UNIT_DECIBELS[(kind == "chebyshev2") as usize][order.clamp(1, 8) as usize - 1]
 }
 
 /// The rate whose half is the class × 2.0775.
