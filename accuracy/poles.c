@@ -1,20 +1,20 @@
-/* Measures the poles of the Chebyshev designs against long double mathematics, with sinh(a) by exp alone, which was 01's
+/* Measures the poles of the Chebyshev designs against long double mathematics, with sinh(a) by exp alone, which is 01's
    rule, and as it is, by 02's Q-4. A pole's parts are worked out here as 001 (chebyshev.rs) does, over the port's elementary
-   functions, and compared with the same formulas in long double, from the decibels on. Usage: poles [all]. `all` also prints
-   each design's sinh(a) by both rules, and the largest error among the parts of its poles. */
+   functions, and compared with the same formulas in long double, from the decibels on. Designs whose a is 1 or above, which
+   the two rules do not tell apart, are left out. Usage: poles [each]. By default it prints a table over designs of every order
+   and many decibels; with `each` a line for each design of some usual decibels. */
 #include <math.h>
 #include <stdint.h>
 #include <stdio.h>
 #include <string.h>
 
 double recorder_elementary(uint64_t function, double x);
-enum { SQRT = 0, ABS, MAX_ZERO, SIN, COS, TAN, EXP, POW10, LN, SINH, COSH, ARCSINH };
-enum { ORDERS = 8, DECIBELS = 8, PARTS = 2 };
-static const char *const NAMES[PARTS] = {"real", "imaginary"};
+enum { SQRT = 0, SIN = 3, COS, TAN, EXP, POW10, LN, SINH, COSH, ARCSINH };
+enum { ORDERS = 8, USUAL = 8, A = 0, SINH_A, REAL, IMAGINARY, ROWS, RULES = 2 };
+static const char *const TYPES[] = {"type I", "type II"}, *const NAMES[ROWS] = {"a", "sinh(a)", "real", "imaginary"};
 static const double PI = 3.141592653589793;
 static const long double PI_LONG = 3.14159265358979323846264338327950288L;
-static const double RIPPLES[DECIBELS] = {0.01, 0.1, 0.25, 0.5, 1, 2, 3, 6};
-static const double STOP_BANDS[DECIBELS] = {10, 20, 30, 40, 50, 60, 80, 100};
+static const double DECIBELS[][USUAL] = {{0.01, 0.1, 0.25, 0.5, 1, 2, 3, 6}, {3, 10, 20, 30, 40, 50, 60, 80}};
 
 static double call(int function, double x) { return recorder_elementary((uint64_t)function, x); }
 static uint64_t bits(double x) { uint64_t b; memcpy(&b, &x, 8); return b; }
@@ -26,38 +26,46 @@ static double error(double x, long double y) {
     return (double)(fabsl(x - y) / ldexpl(1.0L, e - 53));
 }
 
-/* a of a design, as the port has it and exactly */
-static double argument(int type, int order, double decibels) {
+/* a design's type, counted from 0, order and decibels; a as the port has it and exactly; sinh(a) by exp alone and as it is */
+struct design { int type, order; double decibels, a, sinh_a[RULES]; long double exact_a; };
+
+static struct design design_of(int type, int order, double decibels) {
     double epsilon = call(SQRT, call(POW10, decibels / 10.0) - 1.0);
-    return call(ARCSINH, type == 1 ? 1.0 / epsilon : epsilon) / order;
+    long double exact = sqrtl(expm1l((long double)decibels / 10 * logl(10.0L)));
+    struct design d = {type, order, decibels, call(ARCSINH, type == 0 ? 1.0 / epsilon : epsilon) / order, {0, 0},
+                       asinhl(type == 0 ? 1 / exact : exact) / order};
+    d.sinh_a[0] = (call(EXP, d.a) - call(EXP, -d.a)) * 0.5;
+    d.sinh_a[1] = call(SINH, d.a);
+    return d;
 }
-static long double exact_argument(int type, int order, double decibels) {
-    long double epsilon = sqrtl(expm1l((long double)decibels / 10 * logl(10.0L)));
-    return asinhl(type == 1 ? 1 / epsilon : epsilon) / order;
-}
-static double sinh_by_exp(double a) { return (call(EXP, a) - call(EXP, -a)) * 0.5; }
 
-/* the real and the imaginary part of pole m, of an odd order's real pole where m is past the pairs */
-static void pole(int type, int order, int m, double sinh_a, double cosh_a, double *part) {
-    double theta = PI * (2 * m + 1) / (2.0 * order), sigma = -sinh_a * call(SIN, theta), omega = cosh_a * call(COS, theta);
-    double size = sigma * sigma + omega * omega;
-    int real = 2 * m + 1 == order;
-    part[0] = real ? (type == 1 ? -sinh_a : -1.0 / sinh_a) : type == 1 ? sigma : sigma / size;
-    part[1] = real ? 0.0 : type == 1 ? omega : -omega / size;
+/* the real and the imaginary part of pole m by one of the rules; the real pole of an odd order is the one in the middle */
+static void pole(const struct design *d, int m, int rule, double *part) {
+    double theta = PI * (2 * m + 1) / (2.0 * d->order);
+    double sigma = -d->sinh_a[rule] * call(SIN, theta), omega = call(COSH, d->a) * call(COS, theta), size = sigma * sigma + omega * omega;
+    if (2 * m + 1 == d->order) {
+        part[0] = d->type == 0 ? -d->sinh_a[rule] : -1.0 / d->sinh_a[rule];
+        part[1] = 0;
+    } else {
+        part[0] = d->type == 0 ? sigma : sigma / size;
+        part[1] = d->type == 0 ? omega : -omega / size;
+    }
 }
-static void exact_pole(int type, int order, int m, long double a, long double *part) {
-    long double theta = PI_LONG * (2 * m + 1) / (2 * order), sigma = -sinhl(a) * sinl(theta), omega = coshl(a) * cosl(theta);
-    long double size = type == 1 ? 1 : sigma * sigma + omega * omega;
+static void exact_pole(const struct design *d, int m, long double *part) {
+    long double theta = PI_LONG * (2 * m + 1) / (2 * d->order);
+    long double sigma = -sinhl(d->exact_a) * sinl(theta), omega = coshl(d->exact_a) * cosl(theta);
+    long double size = d->type == 0 ? 1 : sigma * sigma + omega * omega;
     part[0] = sigma / size;
-    part[1] = (type == 1 ? omega : -omega) / size;
+    part[1] = (d->type == 0 ? omega : -omega) / size;
 }
 
-/* what was found of one part of the poles, by exp alone and as it is */
-struct found { double largest[2], sum[2]; long nearer, farther, same; };
+/* what was found of a number by both rules: how far it is from the exact one, and how often one rule is nearer */
+struct found { double largest[RULES], sum[RULES]; long nearer, farther, same; };
 
-static void add(struct found *f, const double *errors) {
-    for (int rule = 0; rule < 2; rule++) {
-        if (errors[rule] > f->largest[rule]) f->largest[rule] = errors[rule];
+static void add(struct found *f, const double *x, long double exact) {
+    double errors[RULES] = {error(x[0], exact), error(x[1], exact)};
+    for (int rule = 0; rule < RULES; rule++) {
+        f->largest[rule] = fmax(f->largest[rule], errors[rule]);
         f->sum[rule] += errors[rule];
     }
     f->nearer += errors[1] < errors[0];
@@ -65,49 +73,66 @@ static void add(struct found *f, const double *errors) {
     f->same += errors[1] == errors[0];
 }
 
-/* measures the poles of one design; worst is the largest error by either rule */
-static void measure(int type, int order, double decibels, struct found *found, double *worst) {
-    double a = argument(type, order, decibels), cosh_a = call(COSH, a), rules[2] = {sinh_by_exp(a), call(SINH, a)};
-    long double exact_a = exact_argument(type, order, decibels);
-    worst[0] = worst[1] = 0;
-    for (int m = 0; 2 * m < order; m++) {
-        double parts[2][PARTS];
-        long double exact[PARTS];
-        exact_pole(type, order, m, exact_a, exact);
-        for (int rule = 0; rule < 2; rule++) pole(type, order, m, rules[rule], cosh_a, parts[rule]);
-        for (int part = 0; part < (2 * m + 1 == order ? 1 : PARTS); part++) {
-            double errors[2] = {error(parts[0][part], exact[part]), error(parts[1][part], exact[part])};
-            for (int rule = 0; rule < 2; rule++) worst[rule] = fmax(worst[rule], errors[rule]);
-            add(&found[part], errors);
-        }
+static void measure(const struct design *d, struct found *found) {
+    double a[RULES] = {d->a, d->a};
+    add(&found[A], a, d->exact_a);
+    add(&found[SINH_A], d->sinh_a, sinhl(d->a));
+    for (int m = 0; 2 * m < d->order; m++) {
+        double parts[RULES][2];
+        long double exact[2];
+        exact_pole(d, m, exact);
+        for (int rule = 0; rule < RULES; rule++) pole(d, m, rule, parts[rule]);
+        for (int part = 0; part < (2 * m + 1 == d->order ? 1 : 2); part++)
+            add(&found[REAL + part], (double[RULES]){parts[0][part], parts[1][part]}, exact[part]);
     }
 }
 
-static void print_design(int type, int order, double decibels, const double *worst) {
-    double a = argument(type, order, decibels), before = sinh_by_exp(a), now = call(SINH, a);
-    printf("  order %d, %g dB, a %.4f: sinh(a) by exp %016llX, off by %.2f, now %016llX, off by %.2f; poles off by up to %.2f, now %.2f\n",
-           order, decibels, a, (unsigned long long)bits(before), error(before, sinhl(a)), (unsigned long long)bits(now), error(now, sinhl(a)),
-           worst[0], worst[1]);
+static void print_table(int type, const struct found *found) {
+    for (int row = 0; row < ROWS; row++) {
+        const struct found *f = &found[row];
+        long n = f->nearer + f->farther + f->same;
+        printf("%-8s %-10s %7ld %9.2f %9.2f %9.3f %9.3f %9ld %9ld %9ld\n", TYPES[type], NAMES[row], n, f->largest[0], f->largest[1],
+               f->sum[0] / (double)n, f->sum[1] / (double)n, f->nearer, f->farther, f->same);
+    }
+}
+
+static void print_design(const struct design *d) {
+    struct found found[ROWS] = {{{0}, {0}, 0, 0, 0}};
+    measure(d, found);
+    printf("%s, order %d, %g dB, a %.4f: sinh(a) by exp %016llX, off by %.2f, now %016llX, off by %.2f; poles off by up to %.2f, now %.2f\n",
+           TYPES[d->type], d->order, d->decibels, d->a, (unsigned long long)bits(d->sinh_a[0]), found[SINH_A].largest[0],
+           (unsigned long long)bits(d->sinh_a[1]), found[SINH_A].largest[1], fmax(found[REAL].largest[0], found[IMAGINARY].largest[0]),
+           fmax(found[REAL].largest[1], found[IMAGINARY].largest[1]));
+}
+
+/* type I from 0.01 to 6 dB by 0.01, type II from 0.1 to 100 dB by 0.1 */
+static void tabulate(int type) {
+    struct found found[ROWS] = {{{0}, {0}, 0, 0, 0}};
+    int count = type == 0 ? 600 : 1000;
+    double unit = type == 0 ? 100 : 10;
+    for (int order = 1; order <= ORDERS; order++)
+        for (int i = 1; i <= count; i++) {
+            struct design d = design_of(type, order, i / unit);
+            if (d.a < 1) measure(&d, found);
+        }
+    print_table(type, found);
+}
+
+static void list(int type) {
+    for (int i = 0; i < USUAL; i++)
+        for (int order = 1; order <= ORDERS; order++) {
+            struct design d = design_of(type, order, DECIBELS[type][i]);
+            if (d.a < 1) print_design(&d);
+        }
 }
 
 int main(int argc, char **argv) {
-    int all = argc > 1 && strcmp(argv[1], "all") == 0;
-    printf("%-10s %-10s %7s %20s %20s %8s %8s %8s\n", "Chebyshev", "part", "number", "largest, by exp, now", "mean, by exp, now", "nearer", "farther", "same");
-    for (int type = 1; type <= 2; type++) {
-        struct found found[PARTS] = {{{0}, {0}, 0, 0, 0}, {{0}, {0}, 0, 0, 0}};
-        double worst[2];
-        for (int order = 1; order <= ORDERS; order++)
-            for (int i = 0; i < DECIBELS; i++) {
-                double decibels = type == 1 ? RIPPLES[i] : STOP_BANDS[i];
-                measure(type, order, decibels, found, worst);
-                if (all) print_design(type, order, decibels, worst);
-            }
-        for (int part = 0; part < PARTS; part++) {
-            const struct found *f = &found[part];
-            long n = f->nearer + f->farther + f->same;
-            printf("%-10s %-10s %7ld %10.3f %9.3f %10.3f %9.3f %8ld %8ld %8ld\n", type == 1 ? "type I" : "type II", NAMES[part], n, f->largest[0],
-                   f->largest[1], f->sum[0] / (double)n, f->sum[1] / (double)n, f->nearer, f->farther, f->same);
-        }
-    }
+    int each = argc > 1 && strcmp(argv[1], "each") == 0;
+    if (!each)
+        printf("%-19s %7s %19s %19s %29s\n%-19s %7s %9s %9s %9s %9s %9s %9s %9s\n", "", "", "largest, in ulp", "mean, in ulp", "now, against exp",
+               "Chebyshev", "number", "by exp", "now", "by exp", "now", "nearer", "farther", "same");
+    for (int type = 0; type < 2; type++)
+        if (each) list(type);
+        else tabulate(type);
     return 0;
 }

@@ -848,7 +848,7 @@ impl<W: Write> Maker<W> {
                 self.whole(order);
                 self.bits(cutoff);
                 match kind {
-                    "bandpass" => self.bits(f64::from_bits(cutoff.to_bits() + 1)),
+                    "bandpass" => self.bits(f64::from_bits(cutoff.to_bits().wrapping_add(1))),
                     "chebyshev1" | "chebyshev2" => {
                         let decibels = self.decibels(kind, order);
                         self.number(decibels)
