@@ -14,7 +14,7 @@ enum { ORDERS = 8, USUAL = 8, A = 0, SINH_A, REAL, IMAGINARY, ROWS, RULES = 2 };
 static const char *const TYPES[] = {"type I", "type II"}, *const NAMES[ROWS] = {"a", "sinh(a)", "real", "imaginary"};
 static const double PI = 3.141592653589793;
 static const long double PI_LONG = 3.14159265358979323846264338327950288L;
-static const double DECIBELS[][USUAL] = {{0.01, 0.1, 0.25, 0.5, 1, 2, 3, 6}, {3, 10, 20, 30, 40, 50, 60, 80}};
+static const double DECIBELS[][USUAL] = {{0.1, 0.5, 1, 2, 3, 6, 40, 60}, {0.1, 0.5, 1, 3, 10, 20, 40, 60}};
 
 static double call(int function, double x) { return recorder_elementary((uint64_t)function, x); }
 static uint64_t bits(double x) { uint64_t b; memcpy(&b, &x, 8); return b; }
