@@ -776,8 +776,8 @@ impl<W: Write> Maker<W> {
         self.sweep_forms();
     }
 
-    /// What 02's Q-4 changes. sinh, and cosh, which stays: at 0, the smallest numbers, 2^-54, 2^-27 and 1, with their neighbours.
-    /// Chebyshev designs of each order whose a is below, about and above 1, and 02's own example.
+    /// For 02's Q-4: sinh and cosh at 0, the smallest numbers, 2^-54, 2^-27 and 1, with their neighbours; Chebyshev designs of
+    /// each order whose a is below, about and above 1, and 02's own example.
     fn sweep_hyperbolic(&mut self) {
         let around = [-54, -27, 0].map(|k| 2f64.powi(k).to_bits()).into_iter().flat_map(|b| [b - 1, b, b + 1]);
         for x in (0..=3).chain(around).map(f64::from_bits) {

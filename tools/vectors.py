@@ -269,8 +269,8 @@ def inputs():
     # For 02's Q-4: about 1, where sinh's rule changes, and below.
     small = around(ONE, of(2.0 ** -27)) + [1, 2, 3, (1 << 52) - 1, 1 << 52]
     small += [of(x) for x in (0.001, 0.01, 0.03, 0.1, 0.2, 0.25, 0.3, 0.4, 0.5, 0.6, 0.7, 0.8, 0.9, 0.95, 0.999, 1.5)]
-    # At these the old rule, a term more, or 1/3!, 1/5! or 1/7! with another last bit would show.
-    small += [ONE - 4, 0x3FEC92908796332C, 0x3FEFFC81FE83923D]
+    # The nearest to 1 where the old rule would show; then those where 1/5! or 1/7! with its last bit one higher or lower, or a term more, would.
+    small += [ONE - 4, 0x3FEC92908796332C, 0x3FEFFC81FE83923D, 0x3FEEF829C844AF31, 0x3FEF43E3013CB500]
     small = [s | b for b in small for s in (0, SIGN)]
     own = {sqrt: roots, absolute: [of(-3.5)], max_zero: [of(-3.5), of(3.5)], sin: angles, cos: angles, tan: angles, exp: powers, pow10: tens,
            ln: logs, sinh: hyper + small, cosh: hyper + small, arcsinh: hyper}

@@ -11,16 +11,20 @@ use Rattle.series.specs.Series.{sinhSeries}
 use Rattle.elementary.specs.Exponential.{expOf}
 use Rattle.logarithm.specs.Logarithm.{lnOf}
 
--- |a| below 1; a NaN is not
-unfoldable pub belowOne : Float → Bool
-belowOne a = Ieee.lt (absOf a) one
+-- |a| is below 1; a NaN's is not
+unfoldable pub magnitudeBelowOne : Float → Bool
+magnitudeBelowOne a = Ieee.lt (absOf a) one
 
--- 01's rule
+-- a + (a × s) × P, s = a × a
+unfoldable pub sinhBySeries : Float → Float
+sinhBySeries a = a ⊕ (a ⊗ (a ⊗ a)) ⊗ sinhSeries (a ⊗ a)
+
+-- the old rule, 01's
 unfoldable pub sinhByExp : Float → Float
 sinhByExp a = (expOf a ⊖ expOf (neg a)) ⊗ half
 
 unfoldable pub sinhOf : Float → Float
-sinhOf a = cond (belowOne a) (sinhSeries a) (sinhByExp a)
+sinhOf a = cond (magnitudeBelowOne a) (sinhBySeries a) (sinhByExp a)
 
 unfoldable pub coshOf : Float → Float
 coshOf a = (expOf a ⊕ expOf (neg a)) ⊗ half

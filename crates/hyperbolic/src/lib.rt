@@ -1,5 +1,5 @@
-// sinh by its series below 1 and by exp elsewhere, as 02's Q-4 has it; cosh by exp, as 01 "Elementary functions" has it; and
-// arcsinh as in 001 (chebyshev.rs).
+// sinh by a series where the magnitude is below 1, and by exp elsewhere, as 02's Q-4 has it; cosh by exp, as 01 "Elementary
+// functions" has it; and arcsinh as in 001 (chebyshev.rs).
 ghost use mathlib.Core.Path.{_≡_};
 ghost use Rattle.hyperbolic.specs.Hyperbolic.{sinhOf, coshOf, arcsinhOf};
 use elementary::exp;
@@ -11,7 +11,8 @@ pub fn sinh(a: f64) -> f64
     ensures { λ r. ⌜ r ≡ sinhOf a ⌝ }
 {
     if abs(a) < 1.0 {
-        return sinh_series(a);
+        let s = a * a;
+        return a + (a * s) * sinh_series(s);
     }
     (exp(a) - exp(-a)) * 0.5
 }

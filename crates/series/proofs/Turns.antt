@@ -1,10 +1,10 @@
--- Horner's loops, from the highest coefficient down: what is left to add after each turn.
+-- Horner's loops, from the highest coefficient down: what has been summed after each turn.
 use mathlib.Core.Path.{_≡_, refl, ap, _∙_}
 use Prim.Native.Nat.{ℕ, zero, suc, _+_, _-_, _*_, _≤_, _<_}
 use native.Mathlib.Omega.{arith}
 use lib.Ieee.{Float}
 use Rattle.scalar.specs.Operators.{_⊕_, _⊗_}
-use Rattle.series.specs.Series.{horner, invFact, inv, expSeries, lnSeries, sinhSum}
+use Rattle.series.specs.Series.{horner, invFact, inv, expSeries, lnSeries, sinhSeries}
 
 -- with coefficients c j, c (j + 1), to c (j + n)
 unfoldable pub from : (ℕ → Float) → Float → ℕ → ℕ → Float
@@ -70,6 +70,6 @@ pub ln-all : (s : Float) → from (everySecond inv 1) s 10 0 ≡ lnSeries s
 unfolding from everySecond lnSeries horner
 ln-all s = refl
 
-pub sinh-all : (s : Float) → from (everySecond invFact 3) s 7 0 ≡ sinhSum s
-unfolding from everySecond sinhSum horner
+pub sinh-all : (s : Float) → from (everySecond invFact 3) s 7 0 ≡ sinhSeries s
+unfolding from everySecond sinhSeries horner
 sinh-all s = refl

@@ -67,10 +67,6 @@ expSeries r =
 unfoldable pub lnSeries : Float → Float
 lnSeries s = horner s (inv 1) (inv 3 ∷ inv 5 ∷ inv 7 ∷ inv 9 ∷ inv 11 ∷ inv 13 ∷ inv 15 ∷ inv 17 ∷ inv 19 ∷ inv 21 ∷ [])
 
--- sinh: P in s from 1/3!, 1/5!, to 1/17! (02's Q-4)
-unfoldable pub sinhSum : Float → Float
-sinhSum s = horner s (invFact 3) (invFact 5 ∷ invFact 7 ∷ invFact 9 ∷ invFact 11 ∷ invFact 13 ∷ invFact 15 ∷ invFact 17 ∷ [])
-
--- a + (a × s) × P, with s = a × a
+-- sinh, by 02's Q-4: P in s from 1/3!, 1/5!, to 1/17!
 unfoldable pub sinhSeries : Float → Float
-sinhSeries a = a ⊕ (a ⊗ (a ⊗ a)) ⊗ sinhSum (a ⊗ a)
+sinhSeries s = horner s (invFact 3) (invFact 5 ∷ invFact 7 ∷ invFact 9 ∷ invFact 11 ∷ invFact 13 ∷ invFact 15 ∷ invFact 17 ∷ [])

@@ -1,7 +1,7 @@
 // The series of sin, cos, exp, ln and sinh, each summed by Horner, and their coefficients: 1/k! and 1/k, one division each.
 ghost use mathlib.Core.Path.{_≡_};
 ghost use Prim.Native.Nat.{_<_, _≤_};
-ghost use Rattle.series.specs.Series.{invFact, inv, alternatingOf, sinRest, cosRest, expSeries, lnSeries, sinhSum, sinhSeries};
+ghost use Rattle.series.specs.Series.{invFact, inv, alternatingOf, sinRest, cosRest, expSeries, lnSeries, sinhSeries};
 
 // 0! to 17!, whole numbers that an f64 holds exactly.
 const FACTORIALS: [u64; 18] = [
@@ -97,9 +97,9 @@ pub fn ln_series(s: f64) -> f64
     p
 }
 
-// P of sinh in s: 1/3!, 1/5!, to 1/17!, by Horner. Its signs do not alternate.
-fn sinh_sum(s: f64) -> f64
-    ensures { λ r. ⌜ r ≡ sinhSum s ⌝ }
+// P of sinh in s, by 02's Q-4: 1/3!, 1/5!, to 1/17!, by Horner. Its signs do not alternate.
+pub fn sinh_series(s: f64) -> f64
+    ensures { λ r. ⌜ r ≡ sinhSeries s ⌝ }
 {
     let mut p = inverse_factorial(17);
     let mut k: usize = 17;
@@ -108,12 +108,4 @@ fn sinh_sum(s: f64) -> f64
         p = inverse_factorial(k) + s * p;
     }
     p
-}
-
-// The series of sinh, by which 02's Q-4 has it below 1.
-pub fn sinh_series(a: f64) -> f64
-    ensures { λ y. ⌜ y ≡ sinhSeries a ⌝ }
-{
-    let s = a * a;
-    a + (a * s) * sinh_sum(s)
 }

@@ -5,18 +5,18 @@ use lib.Ieee as Ieee
 use lib.Ieee.{Float}
 use Rattle.scalar.specs.Constants.{one}
 use Rattle.scalar.specs.Sign.{absOf}
-use Rattle.hyperbolic.specs.Hyperbolic.{belowOne, sinhByExp, sinhOf}
+use Rattle.hyperbolic.specs.Hyperbolic.{magnitudeBelowOne, sinhBySeries, sinhByExp, sinhOf}
 use borrow.Author.Needs.{needs}
 use Rattle.hyperbolic.proofs.sinh.Statement.{statement}
 use Rattle.hyperbolic.proofs.sinh.Tie as tie
 
 -- the test of the magnitude m, and that of the definition
-tested : (a m : Float) (b : Bool) → m ≡ absOf a → Ieee.lt m one ≡ b → belowOne a ≡ b
-unfolding belowOne
+tested : (a m : Float) (b : Bool) → m ≡ absOf a → Ieee.lt m one ≡ b → magnitudeBelowOne a ≡ b
+unfolding magnitudeBelowOne
 tested a m b e t = ap (λ (z : Float). Ieee.lt z one) (sym e) ∙ t
 
 returns : tie.Need-returns
-unfolding sinhOf
+unfolding sinhOf sinhBySeries
 returns c = let d = c .before .before in
     rw (c .sinh-series .ensures, tested (d .before .args .a) (d .abs .result) true (d .abs .ensures) (c .before .if1 .taken))
 
