@@ -44,6 +44,7 @@ summed-start g b n s p k e f = record {
   sum = f ∙ ap g e ∙ from-zero (everySecond g b) s n ∙ ap (λ (m : ℕ). from (everySecond g b) s m n) (omega arith);
 }
 
+-- by i, which is above 0 where k is above b
 turn-at : (g : ℕ → Float) (b n : ℕ) (s p : Float) (k i : ℕ) → k ≡ 2 * i + b → i ≤ n → p ≡ from (everySecond g b) s (n - i) i → b < k
     → Summed g b n s (g (k - 2) ⊕ s ⊗ p) (k - 2)
 unfolding everySecond
