@@ -44,22 +44,18 @@ summed-start g b n s p k e f = record {
   sum = f ∙ ap g e ∙ from-zero (everySecond g b) s n ∙ ap (λ (m : ℕ). from (everySecond g b) s m n) (omega arith);
 }
 
--- by i, which is above 0 where k is above b
-turn-at : (g : ℕ → Float) (b n : ℕ) (s p : Float) (k i : ℕ) → k ≡ 2 * i + b → i ≤ n → p ≡ from (everySecond g b) s (n - i) i → b < k
-    → Summed g b n s (g (k - 2) ⊕ s ⊗ p) (k - 2)
-unfolding everySecond
-turn-at g b n s p k zero e l q h = absurd (omega arith)
-turn-at g b n s p k (suc j) e l q h =
-    let m : k - 2 ≡ 2 * j + b = omega arith in
-    record {
-      i = j;
-      number = m;
-      within = omega arith;
-      sum = ap (λ (z : ℕ). g z ⊕ s ⊗ p) m ∙ from-turn (everySecond g b) s p (n - suc j) (suc j) j (n - j) q refl (omega arith);
-    }
-
 pub summed-turn : (g : ℕ → Float) (b n : ℕ) (s p : Float) (k : ℕ) → Summed g b n s p k → b < k → Summed g b n s (g (k - 2) ⊕ s ⊗ p) (k - 2)
-summed-turn g b n s p k h l = turn-at g b n s p k (h .i) (h .number) (h .within) (h .sum) l
+unfolding everySecond
+summed-turn g b n s p k h l =
+    let m : k - 2 ≡ 2 * (h .i - 1) + b = omega (arith, h .number) in
+    let last : h .i ≡ suc (h .i - 1) = omega (arith, h .number) in
+    let more : n - (h .i - 1) ≡ suc (n - h .i) = omega (arith, h .number, h .within) in
+    record {
+      i = h .i - 1;
+      number = m;
+      within = omega (arith, h .within);
+      sum = ap (λ (z : ℕ). g z ⊕ s ⊗ p) m ∙ from-turn (everySecond g b) s p (n - h .i) (h .i) (h .i - 1) (n - (h .i - 1)) (h .sum) last more;
+    }
 
 pub summed-done : (g : ℕ → Float) (b n : ℕ) (s p : Float) (k : ℕ) → Summed g b n s p k → k ≤ b → p ≡ from (everySecond g b) s n 0
 summed-done g b n s p k h l =
