@@ -1,4 +1,6 @@
 // Blocks over lent slices, from an input to an output or in place: what the C interface exports.
+#![tactic(auto)]
+
 mod cascades;
 mod filters;
 mod parts;

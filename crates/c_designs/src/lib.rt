@@ -1,4 +1,6 @@
 // What a design and ready-made taps hand to slices that a caller lends: the record, and 0 or the number that refuses it.
+#![tactic(auto)]
+
 ghost use Rattle.std.specs.Prelude.{◌≡◌};
 ghost use Rattle.fir.specs.View.{made_view};
 ghost use Rattle.design_cascade.specs.View.{design_view};

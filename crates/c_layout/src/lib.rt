@@ -1,4 +1,6 @@
 // How a cascade stands in slices that a caller lends: its numbers and three counts (include/pulse.h).
+#![tactic(auto)]
+
 ghost use Rattle.std.specs.Prelude.{◌≡◌, cond, [], ◌∷◌, ◌++◌, map, ◌*◌, ◌≤◌, eqb, length, drop};
 ghost use Rattle.lists.specs.Lists.{spliced};
 ghost use Rattle.sections.specs.View.{section_view, first_view};

@@ -1,6 +1,8 @@
 // 01 "Cascade": four second-order sections, a first-order part, and running them, a sample or a block at a time. The
 // Rust has this once for each kind of filter (ButterworthLp, ButterworthHp, ButterworthBp, ChebyshevI, ChebyshevII); here
 // it stands once. `block` is added.
+#![tactic(auto)]
+
 ghost use Rattle.std.specs.Prelude.{◌≡◌, true, ◌||◌, map, ◌≤◌, length};
 ghost use Rattle.std.specs.Float.{binary64};
 ghost use Rattle.runs.specs.Runs.{step, reset, block};

@@ -1,5 +1,7 @@
 // What is claimed of designs, filters and the rival's blocks. No program calls these functions: they stand for their contracts, so that the check
 // names each claim as proved.
+#![tactic(auto)]
+
 ghost use Rattle.std.specs.Float.{binary64};
 ghost use Rattle.limits.specs.Limits.{max_taps};
 ghost use Rattle.fir_rounding.specs.Figure.{most_taps, figure_bits, Sharp};

@@ -1,5 +1,7 @@
 // What is claimed of numbers. No program calls these functions: they stand for their contracts, so that the check names each
 // claim as proved. Most do nothing; those of operators.rt and operators_f32.rt compute, since their claims are about operators.
+#![tactic(auto)]
+
 mod operators;
 mod operators_f32;
 

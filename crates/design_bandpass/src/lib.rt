@@ -1,5 +1,7 @@
 // From a pole, or a pair of them, to the band-pass sections that have it: the formulas of 000 butterworth.rs under the
 // Rust's names, operation by operation in the Rust's order.
+#![tactic(auto)]
+
 ghost use Rattle.std.specs.Prelude.{◌≡◌};
 ghost use Rattle.sections.specs.View.{section_view};
 ghost use Rattle.design_bandpass.specs.BandPass.{band_biquad, bp_biquad, bp_pair, imaginary_root, bp_real};

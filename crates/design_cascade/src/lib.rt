@@ -1,5 +1,7 @@
 // The cascade designs. The raw forms, which are the Rust's functions, stand in files of the Rust's names; `defaults` has the
 // default forms over them.
+#![tactic(auto)]
+
 mod butterworth;
 mod chebyshev;
 mod defaults;

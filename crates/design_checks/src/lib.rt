@@ -1,5 +1,7 @@
 // 01's table of refusals for designs, and the order of checks of each kind of design. `validate_params` is that of 000
 // and of 001.
+#![tactic(auto)]
+
 ghost use Rattle.std.specs.Prelude.{◌≡◌, cond};
 ghost use Rattle.runs.specs.Refusals.{Accepted, order_refused};
 ghost use Rattle.design_checks.specs.Checks.{not_positive, cutoff_refused, band_refused, validate_params, validate_band, validate_chebyshev, validate_fir};

@@ -1,4 +1,6 @@
 // 002 fir.rs: the windowed-sinc low pass. Its FirFilter is `fir::TapRecord`, and its checks stand in the crate design_checks.
+#![tactic(auto)]
+
 ghost use Rattle.std.specs.Prelude.{◌≡◌, map, ◌++◌, ◌<◌, ◌≤◌, ◌-◌, take, drop, replicate};
 ghost use Rattle.scalar.specs.Operators.{◌⊘◌};
 ghost use Rattle.limits.specs.Zero.{plus_zero};

@@ -1,5 +1,7 @@
 // From a pole, or a pair of them, to the low-pass or high-pass section or first-order part that has it: the formulas of
 // 000 and 001, operation by operation in the Rust's order.
+#![tactic(auto)]
+
 mod butterworth;
 mod chebyshev;
 

@@ -1,4 +1,6 @@
 // 01's design request: one of six kinds, each with its own parameters alone, its check, and the design of any, by default and raw.
+#![tactic(auto)]
+
 ghost use Rattle.std.specs.Prelude.{◌≡◌};
 ghost use Rattle.fir.specs.View.{made_view};
 ghost use Rattle.design_cascade.specs.View.{design_view};

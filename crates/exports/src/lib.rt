@@ -1,5 +1,7 @@
 // The square root and the elementary functions by number, under a C name: for the programs that test them (vectors) and
 // measure them (accuracy/). Not part of what the recorder runs.
+#![tactic(auto)]
+
 ghost use Rattle.std.specs.Prelude.{◌≡◌};
 ghost use Rattle.exports.specs.Numbered.{numbered};
 

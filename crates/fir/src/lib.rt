@@ -1,5 +1,7 @@
 // 01 "Tap record": the FIR filter of 002 fir.rs, run a sample or a block at a time. The Rust keeps its samples in a Deque;
 // here they stand in an array, newest at place 0. `block` is added.
+#![tactic(auto)]
+
 ghost use Rattle.std.specs.Prelude.{◌≡◌};
 ghost use Rattle.std.specs.Float.{binary64};
 ghost use Rattle.runs.specs.Runs.{step, reset, block};

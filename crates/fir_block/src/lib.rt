@@ -1,6 +1,8 @@
 // 01 "Tap record", a block of samples at a time, where the record's taps and samples are lent. Samples go one by one until
 // the record is full, and then all at once: sixteen sums side by side, the marks counted apart. Added: the Rust has no
 // blocks.
+#![tactic(auto)]
+
 ghost use Rattle.std.specs.Prelude.{◌≡◌, true, ◌++◌, ◌+◌, ◌-◌, ◌*◌, ◌≤◌, ◌<◌, min, length, take, drop};
 ghost use Rattle.std.specs.Float.{binary64};
 ghost use Rattle.runs.specs.Runs.{block};

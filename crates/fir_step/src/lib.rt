@@ -1,5 +1,7 @@
 // 01 "Tap record", one sample at a time, where the record's taps and samples are lent: what `fir::TapRecord` and the C
 // interface share. Newest sample at place 0.
+#![tactic(auto)]
+
 ghost use Rattle.std.specs.Prelude.{◌≡◌, [], ◌+◌, ◌≤◌, ◌<◌, min, length, take, replicate};
 ghost use Rattle.std.specs.Float.{binary64};
 ghost use Rattle.limits.specs.Zero.{plus_zero};

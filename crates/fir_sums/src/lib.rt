@@ -1,5 +1,7 @@
 // Many outputs of a FIR at once. Each output is its own sum, from tap 0 up; sixteen sums go side by side, and no sum is
 // regrouped. They are no part of what is promised.
+#![tactic(auto)]
+
 ghost use Rattle.std.specs.Prelude.{◌≡◌, ◌+◌, ◌≤◌, ◌<◌, length};
 ghost use Rattle.std.specs.Float.{binary64};
 ghost use Rattle.lists.specs.Lists.{spliced};

@@ -1,5 +1,7 @@
 // sinh by a series where the magnitude is below 1, and by exp elsewhere, as 02's Q-4 has it; cosh by exp, as 01 "Elementary
 // functions" has it; and arcsinh as in 001 (chebyshev.rs).
+#![tactic(auto)]
+
 ghost use Rattle.std.specs.Prelude.{◌≡◌};
 ghost use Rattle.hyperbolic.specs.Hyperbolic.{sinh_of, cosh_of, arcsinh_of};
 

@@ -1,6 +1,8 @@
 // What IEEE 754 asks of arithmetic and square root stands in specs/; that the language's own +, -, * and / meet it,
 // at both formats, is proved in proofs/Arithmetic.antt. Here is the square root, which the language lacks: digit by
 // digit from the bit pattern, by shifts, comparisons, additions and subtractions.
+#![tactic(auto)]
+
 mod bits;
 
 ghost use Rattle.std.specs.Prelude.{◌≡◌, ◌+◌, ◌-◌, ◌*◌, ◌/◌, ◌%◌, ◌^◌, ◌<◌, ◌≤◌};

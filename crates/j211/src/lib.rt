@@ -1,4 +1,6 @@
 // 02's Q-1: a whole pulse filtered by a channel class of SAE J211-1, forward and then backward, in place.
+#![tactic(auto)]
+
 ghost use Rattle.std.specs.Prelude.{◌≡◌};
 ghost use Rattle.j211.specs.J211.{is_class, cutoff_of, warped_of, coefficients_of};
 ghost use Rattle.j211.specs.J211.{zero_history, output_of, next_of, forward, backward, refusal, filtered};

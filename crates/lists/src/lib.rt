@@ -1,4 +1,6 @@
 // What several crates do with lists: copying, and whether places are there.
+#![tactic(auto)]
+
 ghost use Rattle.std.specs.Prelude.{◌≡◌, ◌+◌, leb};
 ghost use Rattle.lists.specs.Copies.{copied};
 

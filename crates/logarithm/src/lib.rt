@@ -1,4 +1,6 @@
 // ln by the written rule of 01 "Elementary functions": by x = m * 2 ^ e and a series in (m - 1)/(m + 1).
+#![tactic(auto)]
+
 ghost use Rattle.std.specs.Prelude.{◌≡◌, ◌*◌, ◌^◌, ◌<◌, ◌≤◌, false, T};
 ghost use Rattle.std.specs.Float.Ieee.{minus, odd};
 ghost use Rattle.std.specs.Float.Ieee.Positive.{positive};

@@ -1,6 +1,8 @@
 // Four sections in a row over a block of samples, skewed: each section works one sample behind the section before it, so
 // that none waits for another within a turn. Operations and answers are those of one sample after the other. It is no part
 // of what is promised.
+#![tactic(auto)]
+
 ghost use Rattle.std.specs.Prelude.{◌≡◌};
 ghost use Rattle.std.specs.Float.{binary64};
 ghost use Rattle.cascade_theory.specs.Skew.{filled, line_out, advanced, drained, ran};

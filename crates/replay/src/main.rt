@@ -1,6 +1,8 @@
 // Replays the oracle's stored answers, the file `answers`: each request is asked of the port, and its answer compared with
 // the stored one, word by word. Prints how many requests of each kind there were and how many agreed. tools/replay.py
 // makes the file.
+#![tactic(auto)]
+
 mod cascades;
 mod compare;
 mod forms;

@@ -1,5 +1,7 @@
 // What running has in common, whatever the filter: the answer to a sample, the refusal numbers, and whether numbers are all
 // finite. What a step, a block and a reset are, for any filter, width and capacity, stands in specs/.
+#![tactic(auto)]
+
 ghost use Rattle.std.specs.Prelude.{◌≡◌, cond, take};
 ghost use Rattle.std.specs.Float.Ieee.Scale.{finite};
 ghost use Rattle.runs.specs.Runs.{number_of, is_clouded, refusal_of, not_all_finite};

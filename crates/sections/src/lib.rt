@@ -1,4 +1,6 @@
 // 01 "Section": second-order sections and first-order parts, a sample at a time.
+#![tactic(auto)]
+
 mod first_order;
 mod parts;
 mod section;

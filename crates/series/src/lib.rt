@@ -1,4 +1,6 @@
 // The series of sin, cos, exp, ln and sinh, each summed by Horner, and their coefficients: 1/k! and 1/k, one division each.
+#![tactic(auto)]
+
 ghost use Rattle.std.specs.Prelude.{◌≡◌, ◌<◌, ◌≤◌};
 ghost use Rattle.series.specs.Series.{inv_fact, inv, alternating_of, sin_rest, cos_rest, exp_series, ln_series, sinh_series};
 

@@ -1,5 +1,7 @@
 // The program `sheet`: reads request lines on standard input to its end and writes one answer line for each to standard
 // output.
+#![tactic(auto)]
+
 ghost use Rattle.std.specs.Prelude.{◌≤◌, length};
 
 mod answer;

@@ -1,5 +1,7 @@
 // The by-value `update` of both kinds of record, once for each sample, under a C name: for measuring (bench/). Not part of
 // what the recorder runs.
+#![tactic(auto)]
+
 ghost use Rattle.std.specs.Prelude.{◌≡◌, ◌≤◌, length};
 ghost use Rattle.std.specs.Float.{binary64};
 ghost use Rattle.runs.specs.Runs.{answers, written, placed};

@@ -1,5 +1,7 @@
 // The words and numbers of request and answer lines, as PROTOCOL.md has them: the tokens of a line (crate text_tokens), counts,
 // floats and bytes in their written forms (crates text_decimals and text_numbers), and the bytes of an answer.
+#![tactic(auto)]
+
 mod print;
 
 pub use print::{put_bytes, put_count, put_float};

@@ -1,4 +1,6 @@
 // Floats in their written forms: bits, names, or decimals with a sign and a point; and bytes as pairs of hexadecimal digits.
+#![tactic(auto)]
+
 ghost use Rattle.std.specs.Prelude.{◌≡◌, ◌+◌, ◌*◌, ◌/◌, ◌≤◌, min, length};
 ghost use Rattle.lists.specs.Copies.{copied};
 ghost use Rattle.text_decimals.specs.Decimals.{digit as Decimals·digit, value_after};

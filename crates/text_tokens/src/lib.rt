@@ -1,4 +1,6 @@
 // The tokens of a request line: runs of bytes that are no spaces; and bytes by their kind, and compared.
+#![tactic(auto)]
+
 ghost use Rattle.std.specs.Prelude.{◌≡◌};
 ghost use Rattle.text_tokens.specs.Tokens.{between as Tokens·between, is_hex_digit, in_class, run_end, next_token, same_bytes};
 

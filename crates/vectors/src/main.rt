@@ -1,6 +1,8 @@
 // Runs the vectors of the elementary functions, the file `vectors`: prints each input and answer as bit patterns, compares
 // the answer with the stored one, and ends with how many agree, or with where the list is wrong. tools/vectors.py makes the
 // file and the expected output.
+#![tactic(auto)]
+
 ghost use Rattle.std.specs.Prelude.{◌≤◌};
 
 mod list;
