@@ -3,8 +3,7 @@ use mathlib.Core.Path.{◌≡◌, refl, sym}
 use mathlib.Core.Bool.{true, false, true≢false}
 use lib.Ieee.{Float, nan, inf, fin, lt, neg, div, of_bits}
 use lib.Ieee.Scale.{finite}
-use Rattle.scalar.proofs.sign.is_finite.Statement.{statement}
-use Rattle.scalar.proofs.sign.is_finite.Tie as tie
+use Rattle.scalar.proofs.sign.is_finite.Goals as goal
 
 above : (x : Float) → lt x (inf false) ≡ true → lt (inf true) x ≡ finite x
 unfolding lt
@@ -19,8 +18,8 @@ not-below nan p = refl
 not-below (inf s) p = refl
 not-below (fin s m e) p = absurd (true≢false p)
 
-pub is-finite-spec : {M : Type 1} → statement M
-is-finite-spec =
-    tie.close
-    (tie.spec (λ c. unfold neg div of_bits in above c.before.args.x c.if1.true)
-    (λ c. unfold div of_bits in not-below c.before.args.x c.if1.false))
+pub returns-then-x-infinity : goal.returns-then-x-infinity
+returns-then-x-infinity c = unfold neg div of_bits in above c.args.x c.if-x-infinity.true
+
+pub returns : goal.returns
+returns c = unfold div of_bits in not-below c.args.x c.if-x-infinity.false
