@@ -11,7 +11,7 @@ use lib.Ieee.{Float}
 use Rattle.lists.specs.Copies.{copied}
 use Rattle.lists.proofs.Copies.{copied-front}
 use borrow.Author.Tests.{eqb-true, eqb-false}
-use Rattle.runs.specs.Refusals.{Accepted, ShortOutput}
+use Rattle.runs.specs.Refusals.{no_refusal, short_output}
 use Rattle.runs.specs.Runs.{Filter, Answer, Block, refused_block, clouded_in, written, answers, after, block}
 use Rattle.runs.proofs.Laws.{Running, run-start, run-part, run-done, written-length, block-is, block_refused, check-after}
 use Rattle.c_calls.specs.Kinds.{Kind}

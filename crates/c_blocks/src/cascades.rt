@@ -1,6 +1,6 @@
 // Blocks of a lent cascade.
 ghost use Rattle.std.specs.Prelude.{◌≡◌, ◌≤◌, length};
-ghost use Rattle.runs.specs.Refusals.{Accepted};
+ghost use Rattle.runs.specs.Refusals.{no_refusal};
 ghost use Rattle.c_calls.specs.Kinds.{cascade_kind};
 ghost use Rattle.c_calls.specs.Calls.{block_call, block_in_place_call};
 ghost use Rattle.c_blocks.specs.Ready.{Ready, part_length};

@@ -7,7 +7,7 @@ use lib.Dec.{eqb}
 use lib.ListN.{length, get_or, set}
 use lib.Ieee.{Float, binary64}
 use borrow.Author.Tests.{eq-eqb, ne_eqb, eqb-true}
-use Rattle.runs.specs.Refusals.{Accepted, BadCall}
+use Rattle.runs.specs.Refusals.{no_refusal, bad_call}
 use Rattle.runs.specs.Runs.{Filter, Answer, Step, Reset, Block, number_of, is_clouded, refusal_of, step, reset, block}
 use Rattle.runs.specs.Lent.{lent_step, lent_reset, lent_block}
 use Rattle.runs.proofs.Lent.{lent-step, lent-reset, lent-block, unfit-step, unfit-reset, unfit-block, step_keeps, reset-keeps, block-keeps}

@@ -9,7 +9,7 @@ use lib.Dec.{eqb}
 use lib.ListN.{length}
 use lib.Ieee.{Float}
 use borrow.Author.Tests.{ne_eqb, eqb-true, eqb-false, ltb-true, ltb-false}
-use Rattle.runs.specs.Refusals.{Accepted, ShortOutput, BadCall}
+use Rattle.runs.specs.Refusals.{no_refusal, short_output, bad_call}
 use Rattle.runs.specs.Runs as Runs
 use Rattle.runs.specs.Runs.{marked, refused, number_of, is_clouded, Filter, refused_block, clouded_in, written, answer, answers, after}
 use Rattle.runs.specs.Forgetting.{Call, step, block, reset, Outcome, stepped, blocked, was_reset, outcome, left, run}

@@ -1,6 +1,6 @@
 -- What each call that runs or resets a filter returns, and what every slice holds after it. A refused call leaves every slice.
 use Rattle.std.specs.Prelude.{ℕ, Bool, ◌&&◌, cond, List, [], ◌∷◌, eqb, length, Float}
-use Rattle.runs.specs.Refusals.{Accepted, BadCall}
+use Rattle.runs.specs.Refusals.{no_refusal, bad_call}
 use Rattle.runs.specs.Runs.{number_of, is_clouded, refusal_of, Step, Block}
 use Rattle.runs.specs.Lent.{lent_step, lent_reset, lent_block}
 use Rattle.c_layout.specs.Layout.{flag}

@@ -2,7 +2,7 @@
 -- word for word, at cascade_kind for a cascade and at fir_kind for a tap record.
 use Rattle.std.specs.Prelude.{ℕ, ◌≡◌, cond, List, [], ◌∷◌, eqb, get_or, Float}
 use Rattle.std.specs.Float.{nan}
-use Rattle.runs.specs.Refusals.{Accepted, BadCall}
+use Rattle.runs.specs.Refusals.{no_refusal, bad_call}
 use Rattle.runs.specs.Runs.{Answer, marked, refused}
 use Rattle.runs.specs.Forgetting.{Call, step, block, reset, Outcome, stepped, blocked, was_reset}
 use Rattle.c_calls.specs.Kinds.{Kind}

@@ -1,6 +1,6 @@
 -- 02's Q-2: what the call that reads a channel of the rival's blocks returns, and what every slice holds after it. A refused call leaves every slice.
 use Rattle.std.specs.Prelude.{ℕ, cond, List, [], ◌∷◌, eqb, length, Float}
-use Rattle.runs.specs.Refusals.{Accepted, BadCall}
+use Rattle.runs.specs.Refusals.{no_refusal, bad_call}
 use Rattle.recordings.specs.Reading.{ReadRecord, read_channel}
 
 -- the output, and the place for how many samples were written to it

@@ -8,8 +8,8 @@ use lib.ListN.{length}
 use lib.Ieee.{Float}
 use borrow.Author.Tests.{eq-eqb, ne_eqb, eqb-true, le-leb, lt-leb}
 use Rattle.limits.specs.Limits.{max_taps}
-use Rattle.runs.specs.Refusals.{Accepted, BadCall}
-use Rattle.fir_theory.specs.Fir.{FirDesignRecord, Blackman}
+use Rattle.runs.specs.Refusals.{no_refusal, bad_call}
+use Rattle.fir_theory.specs.Fir.{FirDesignRecord, blackman}
 use Rattle.design_fir.specs.declared.WindowType.{WindowType}
 use Rattle.design_cascade.specs.Design.{CascadeDesignRecord}
 use Rattle.c_layout.specs.Layout.{count_places, cascade_places, cascade_numbers, cascade_counts}

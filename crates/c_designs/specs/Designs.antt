@@ -1,8 +1,8 @@
 -- What each call that designs a filter, or makes one of ready-made taps, returns, and what every slice holds after it. A refused call leaves every slice.
 use Rattle.std.specs.Prelude.{ℕ, Bool, ◌&&◌, cond, List, eqb, leb, length, Float}
 use Rattle.limits.specs.Limits.{max_taps}
-use Rattle.runs.specs.Refusals.{Accepted, BadCall}
-use Rattle.fir_theory.specs.Fir.{FirDesignRecord, Blackman}
+use Rattle.runs.specs.Refusals.{no_refusal, bad_call}
+use Rattle.fir_theory.specs.Fir.{FirDesignRecord, blackman}
 use Rattle.design_fir.specs.declared.WindowType.{WindowType}
 use Rattle.design_cascade.specs.Design.{CascadeDesignRecord}
 use Rattle.c_layout.specs.Layout.{count_places, cascade_places, cascade_numbers, cascade_counts}

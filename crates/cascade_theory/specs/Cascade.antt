@@ -3,7 +3,7 @@ use Rattle.std.specs.Prelude.{ℕ, Bool, false, not, ◌&&◌, ◌||◌, cond, L
 use Rattle.std.specs.Float.{Format}
 use Rattle.std.specs.Float.Ieee.Scale.{finite}
 use Rattle.limits.specs.Limits.{max_sections}
-use Rattle.runs.specs.Refusals.{BadCascade}
+use Rattle.runs.specs.Refusals.{bad_cascade}
 use Rattle.runs.specs.Runs.{Filter}
 use Rattle.cascade_theory.specs.Section.{SectionRecord, blank_section, cleared_section}
 use Rattle.cascade_theory.specs.FirstOrder.{FirstOrderRecord, blank_first, cleared_first, first_out, first_next}

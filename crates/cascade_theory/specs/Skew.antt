@@ -2,7 +2,7 @@
 -- what is promised.
 use Rattle.std.specs.Prelude.{Bool, true, false, ◌&&◌, cond, List, leb, length, Float}
 use Rattle.std.specs.Float.{Format}
-use Rattle.runs.specs.Refusals.{Accepted}
+use Rattle.runs.specs.Refusals.{no_refusal}
 use Rattle.runs.specs.Runs.{Filter, answers, after, written}
 use Rattle.cascade_theory.specs.Section.{SectionRecord, cleared_section, section_out, section_next}
 

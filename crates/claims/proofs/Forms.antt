@@ -1,7 +1,7 @@
 -- What is accepted by default is what the raw form returned, so it is fresh where that is.
 use mathlib.Core.Path.{◌≡◌, refl, sym, ap, ◌∙◌}
 use Rattle.limits.specs.Limits.{max_taps}
-use Rattle.runs.specs.Refusals.{Accepted}
+use Rattle.runs.specs.Refusals.{no_refusal}
 use Rattle.runs.proofs.Default.{accepted-raw}
 use Rattle.cascade.specs.View.{FreshCascade}
 use Rattle.fir.specs.View.{FreshTaps}

@@ -1,7 +1,7 @@
 -- 02's Q-3: what a default form returns beside its raw form, for every raw result.
 use Rattle.std.specs.Prelude.{◌≡◌, Bool, true, false, ℕ, Float}
 use Rattle.limits.specs.Limits.{max_taps}
-use Rattle.runs.specs.Refusals.{Accepted, NonFiniteCoefficient}
+use Rattle.runs.specs.Refusals.{no_refusal, non_finite_coefficient}
 use Rattle.cascade_theory.specs.Coefficients.{finite_coefficients}
 use Rattle.fir_theory.specs.Fir.{FirDesignRecord, finite_taps, refused_taps, taps_by_default}
 use Rattle.design_checks.specs.Checks.{validate_fir}

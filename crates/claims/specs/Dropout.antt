@@ -1,7 +1,7 @@
 -- 02's Q-1: what a dropout, a NaN among the samples, does to a pulse that a channel class filters.
 use Rattle.std.specs.Prelude.{◌≡◌, List, ◌∷◌, ◌++◌, ℕ, suc, length, replicate, Float}
 use Rattle.std.specs.Float.{nan}
-use Rattle.runs.specs.Refusals.{Accepted}
+use Rattle.runs.specs.Refusals.{no_refusal}
 use Rattle.j211.specs.J211.{warped_of, coefficients_of, forward, refusal, filtered}
 
 -- the samples before the dropout are xs, and those behind it ys

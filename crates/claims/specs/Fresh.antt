@@ -11,7 +11,7 @@ use Rattle.design_cascade.specs.LowPass.{butterworth_lp, butterworth_hp, chebysh
 use Rattle.design_cascade.specs.BandPass.{butterworth_bp}
 use Rattle.design_fir.specs.Fir.{fir_lp}
 use Rattle.design_fir.specs.declared.WindowType.{WindowType}
-use Rattle.runs.specs.Refusals.{Accepted}
+use Rattle.runs.specs.Refusals.{no_refusal}
 use Rattle.design_cascade.specs.Design.{CascadeDesignRecord, cascade_by_default}
 use Rattle.c_layout.specs.Layout.{cascade_at, cascade_fits}
 use Rattle.c_calls.specs.Kinds.{taps_at, taps_fit}

@@ -1,7 +1,7 @@
 -- 02's Q-2: what is claimed of reading the rival's blocks.
 use Rattle.std.specs.Prelude.{◌≡◌, cond, List, [], ◌++◌, map, ℕ, ◌<◌, ◌≤◌, leb, ltb, ℤ, length, get_or, drop, Float}
 use Rattle.std.specs.Float.{nan}
-use Rattle.runs.specs.Refusals.{Accepted, ShortOutput, ChannelNotPresent}
+use Rattle.runs.specs.Refusals.{no_refusal, short_output, channel_not_present}
 use Rattle.endian.specs.Endian.{Bytes}
 use Rattle.recordings.specs.Codes.{IsCode, dropout, sample_of, Exactly}
 use Rattle.recordings.specs.Format.{Recording, encoded, Storable}

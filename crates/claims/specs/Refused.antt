@@ -1,7 +1,7 @@
 -- Of a request of every kind: its raw design's refusal is the number that its check gives, so it is 0 exactly where the check gives 0. By default
 -- (02's Q-3) a number that the check gives comes before 25, and where the check gives 0 there is no number but 25.
 use Rattle.std.specs.Prelude.{◌≡◌, ◌⊎◌}
-use Rattle.runs.specs.Refusals.{Accepted, NonFiniteCoefficient}
+use Rattle.runs.specs.Refusals.{no_refusal, non_finite_coefficient}
 use Rattle.design_request.specs.Request.{check_request, design_of, design_by_default}
 use Rattle.design_request.specs.declared.DesignRequest.{DesignRequest}
 

@@ -1,6 +1,6 @@
 -- What a cascade design returns: its refusal number, or 0 and the cascade.
 use Rattle.std.specs.Prelude.{ℕ, zero, suc, cond, List, [], ◌∷◌, eqb}
-use Rattle.runs.specs.Refusals.{Accepted}
+use Rattle.runs.specs.Refusals.{no_refusal}
 use Rattle.runs.specs.Default.{by_default}
 use Rattle.cascade_theory.specs.Section.{SectionRecord, blank_section}
 use Rattle.cascade_theory.specs.Cascade.{CascadeRecord, blank_cascade}

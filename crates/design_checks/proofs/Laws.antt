@@ -6,7 +6,7 @@ use native.Mathlib.Omega.{arith}
 use lib.Dec.{T, le→leb}
 use lib.IntN.{pos}
 use lib.Ieee.{Float, binary64, in_float}
-use Rattle.runs.specs.Refusals.{InvalidOrder, order_refused}
+use Rattle.runs.specs.Refusals.{invalid_order, order_refused}
 use Rattle.runs.proofs.Laws.{good-order}
 use Rattle.limits.specs.Limits.{max_order, max_band_order, max_taps}
 use Rattle.design_checks.specs.Checks.{validate_params, validate_chebyshev, validate_band, validate_fir}

@@ -5,7 +5,7 @@ use Rattle.std.specs.Float.Ieee.{is_nan, le}
 use Rattle.scalar.specs.Operators.{◌⊗◌}
 use Rattle.limits.specs.Zero.{plus_zero}
 use Rattle.scalar.specs.Constants.{half}
-use Rattle.runs.specs.Refusals.{Accepted, InvalidOrder, InvalidFrequency, InvalidSampleRate, InvalidRipple, order_refused}
+use Rattle.runs.specs.Refusals.{no_refusal, invalid_order, invalid_frequency, invalid_sample_rate, invalid_ripple, order_refused}
 use Rattle.limits.specs.Limits.{max_order, max_band_order, max_taps}
 
 -- NaN or at most 0

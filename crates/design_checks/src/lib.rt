@@ -3,7 +3,7 @@
 #![tactic(auto)]
 
 ghost use Rattle.std.specs.Prelude.{◌≡◌, cond};
-ghost use Rattle.runs.specs.Refusals.{Accepted, order_refused};
+ghost use Rattle.runs.specs.Refusals.{no_refusal, order_refused};
 ghost use Rattle.design_checks.specs.Checks.{not_positive, cutoff_refused, band_refused, validate_params, validate_band, validate_chebyshev, validate_fir};
 
 use limits::{MAX_BAND_ORDER, MAX_ORDER, MAX_TAPS};

@@ -6,7 +6,7 @@ use native.Mathlib.Omega.{arith}
 use lib.Dec.{eqb}
 use lib.Ieee.{Float, binary64}
 use borrow.Author.Tests.{eqb-true, eqb-false}
-use Rattle.fir_theory.specs.Fir.{ReadyMade, FirDesignRecord, blank_taps, holding}
+use Rattle.fir_theory.specs.Fir.{ready_made, FirDesignRecord, blank_taps, holding}
 use Rattle.limits.specs.Limits.{max_taps}
 use Rattle.fir.specs.View.{FreshTaps}
 use Rattle.fir_theory.proofs.Fresh.{holding-fresh}

@@ -10,7 +10,7 @@ use Rattle.scalar.specs.Constants.{two, half, pi}
 use Rattle.elementary.specs.Trigonometric.{turnable, cos_of}
 use Rattle.limits.specs.Limits.{max_taps}
 use Rattle.lists.specs.Lists.{up_to}
-use Rattle.runs.specs.Refusals.{Accepted, NonFiniteCoefficient}
+use Rattle.runs.specs.Refusals.{no_refusal, non_finite_coefficient}
 use Rattle.runs.specs.Runs.{not_all_finite}
 use Rattle.runs.proofs.Default.{not_finite}
 use Rattle.fir_theory.specs.Fir.{finite_taps, holding, refused_taps, taps_by_default}

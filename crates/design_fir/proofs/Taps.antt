@@ -17,7 +17,7 @@ use Rattle.design_fir.specs.Fir.{code_of, tap_of, total_from, normalised_by, fir
 use Rattle.design_fir.specs.declared.WindowType.{WindowType}
 use borrow.Author.Tests.{eq-eqb, ne_eqb}
 use lib.Ieee.{of_bits}
-use Rattle.runs.specs.Refusals.{Accepted}
+use Rattle.runs.specs.Refusals.{no_refusal}
 use Rattle.fir_theory.specs.Fir.{TapsRecord, FirDesignRecord, zeros, blank_taps, holding}
 use Rattle.limits.specs.Limits.{max_taps}
 

@@ -6,8 +6,8 @@ use Rattle.limits.specs.Zero.{plus_zero}
 use Rattle.scalar.specs.Constants.{one, two, half, pi, epsilon}
 use Rattle.scalar.specs.Sign.{abs_of}
 use Rattle.elementary.specs.Trigonometric.{sin_of, cos_of}
-use Rattle.runs.specs.Refusals.{Accepted}
-use Rattle.fir_theory.specs.Fir.{Rectangular, Hamming, Hanning, Blackman, FirDesignRecord, holding, refused_taps}
+use Rattle.runs.specs.Refusals.{no_refusal}
+use Rattle.fir_theory.specs.Fir.{rectangular, hamming, hanning, blackman, FirDesignRecord, holding, refused_taps}
 use Rattle.limits.specs.Limits.{max_taps}
 use Rattle.design_checks.specs.Checks.{validate_fir}
 use Rattle.lists.specs.Lists.{up_to}

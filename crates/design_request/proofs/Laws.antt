@@ -6,7 +6,7 @@ use Prim.Native.Nat.{ℕ}
 use lib.Dec.{eqb}
 use borrow.Author.Tests.{eqb-true}
 use Rattle.limits.specs.Limits.{max_taps}
-use Rattle.runs.specs.Refusals.{Accepted, NonFiniteCoefficient}
+use Rattle.runs.specs.Refusals.{no_refusal, non_finite_coefficient}
 use Rattle.runs.specs.Runs.{not_all_finite}
 use Rattle.runs.specs.Default.{by_default}
 use Rattle.runs.proofs.Default.{refused-stays, of_either}

@@ -15,7 +15,7 @@ use Rattle.lists.specs.Lists.{Each}
 use Rattle.lists.proofs.Each.{each_append, each-replicate}
 use Rattle.runs.specs.Runs.{clear, not_all_finite, step}
 use Rattle.exact.specs.Scaled.{IsValue, scale, scaled, distance}
-use Rattle.fir_theory.specs.Fir.{TapsRecord, ReadyMade, taps_of, pushed, next, held_of, clouding, sum, value, mark, check_taps, fir}
+use Rattle.fir_theory.specs.Fir.{TapsRecord, ready_made, taps_of, pushed, next, held_of, clouding, sum, value, mark, check_taps, fir}
 use Rattle.fir_rounding.specs.Figure.{most_taps, figure_bits, Tap, Count, exact_sum, DiffersAtMost, Sharp}
 
 -- 1 - 48 * 2 ^ -53 and 1 - 96 * 2 ^ -53

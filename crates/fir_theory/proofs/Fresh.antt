@@ -7,11 +7,11 @@ use native.Mathlib.Omega.{arith}
 use lib.ListN.{length}
 use lib.Ieee.{Float, Format}
 use borrow.Author.Tests.{le-leb}
-use Rattle.runs.specs.Refusals.{InvalidOrder, Accepted, order_refused}
+use Rattle.runs.specs.Refusals.{invalid_order, no_refusal, order_refused}
 use Rattle.runs.specs.Runs.{Fresh, reset}
 use Rattle.runs.proofs.Laws.{good-order, reset-fresh}
 use Rattle.fir_theory.proofs.Laws.{check-cleared}
-use Rattle.fir_theory.specs.Fir.{TapsRecord, ReadyMade, check_taps, cleared_taps, blank_taps, fir, holding, from_coeffs, FirDesignRecord}
+use Rattle.fir_theory.specs.Fir.{TapsRecord, ready_made, check_taps, cleared_taps, blank_taps, fir, holding, from_coeffs, FirDesignRecord}
 
 module _ (capacity : ℕ) (f : Format) where
   pub holding-fresh : (ts : List Float) (window : ℕ) → 0 < length ts → length ts ≤ capacity → window ≤ ready_made

@@ -11,7 +11,7 @@ use lib.Seq.{drop-cons, length-take-le, get_or-take, take_all, take-append-le, t
 use lib.Ieee.{Float, nan, inf, fin, unlike, Format, add, mul}
 use lib.Ieee.Scale.{finite}
 use borrow.Author.Tests.{leb-true, le-leb, lt-ltb, le-ltb, eq-eqb, ne_eqb, eqb-true}
-use Rattle.runs.specs.Refusals.{InvalidOrder, Accepted, order_refused}
+use Rattle.runs.specs.Refusals.{invalid_order, no_refusal, order_refused}
 use Rattle.limits.specs.Zero.{plus_zero}
 use Rattle.runs.specs.Runs.{not_all_finite, marked, Step, Reset}
 use Rattle.runs.specs.Lent.{lent_step, lent_reset}
@@ -25,7 +25,7 @@ use Rattle.lists.proofs.Folding.{front-turn, front-done}
 use Rattle.lists.proofs.Places.{drop-replicate}
 use Rattle.lists.proofs.Tests.{both}
 use Rattle.fir_theory.specs.Lent.{lent_taps, fits}
-use Rattle.fir_theory.specs.Fir.{TapsRecord, ReadyMade, pushed, next, held_of, clouding, sum, value, mark, check_taps, zeros, blank_taps, cleared_taps, fir}
+use Rattle.fir_theory.specs.Fir.{TapsRecord, ready_made, pushed, next, held_of, clouding, sum, value, mark, check_taps, zeros, blank_taps, cleared_taps, fir}
 use Rattle.fir_theory.specs.Fir.{holding, FirDesignRecord, from_coeffs}
 
 -- ---- the loop that pushes among the first n: i places are done, and carried is what goes next

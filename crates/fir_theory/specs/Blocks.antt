@@ -2,7 +2,7 @@
 use Rattle.std.specs.Prelude.{ℕ, zero, suc, ◌+◌, ◌-◌, min, ◌≡◌, cond, true, List, [], ◌∷◌, ◌++◌, ltb, length, get_or, take, drop, Float}
 use Rattle.std.specs.Float.{nan, binary64}
 use Rattle.std.specs.Float.Ieee.Scale.{finite}
-use Rattle.runs.specs.Refusals.{Accepted}
+use Rattle.runs.specs.Refusals.{no_refusal}
 use Rattle.runs.specs.Runs.{Block, clouded_in, written, answers, after}
 use Rattle.fir_theory.specs.Fir.{TapsRecord, check_taps, fir}
 use Rattle.limits.specs.Limits.{max_taps}

@@ -3,7 +3,7 @@
 use Rattle.std.specs.Prelude.{ℕ, ◌+◌, ◌-◌, min, Bool, ◌&&◌, cond, List, [], ◌∷◌, ◌++◌, leb, length, take, drop, replicate, Float}
 use Rattle.std.specs.Float.{Format}
 use Rattle.std.specs.Float.Ieee.{add, mul}
-use Rattle.runs.specs.Refusals.{Accepted, InvalidOrder, BadTaps, order_refused}
+use Rattle.runs.specs.Refusals.{no_refusal, invalid_order, bad_taps, order_refused}
 use Rattle.limits.specs.Zero.{plus_zero}
 use Rattle.runs.specs.Runs.{not_all_finite, all_finite, Filter}
 use Rattle.runs.specs.Default.{by_default}

@@ -7,7 +7,7 @@ use Rattle.limits.specs.Zero.{plus_zero}
 use Rattle.scalar.specs.Operators.{◌⊕◌, ◌⊖◌, ◌⊗◌, ◌⊘◌, bits, nat}
 use Rattle.scalar.specs.Constants.{one, two, half, pi}
 use Rattle.elementary.specs.Trigonometric.{tan_of}
-use Rattle.runs.specs.Refusals.{Accepted, InvalidFrequency, InvalidSampleRate, InvalidClass}
+use Rattle.runs.specs.Refusals.{no_refusal, invalid_frequency, invalid_sample_rate, invalid_class}
 use Rattle.design_checks.specs.Checks.{rate_refused}
 use Rattle.j211.specs.declared.Coefficients.{Coefficients}
 use Rattle.j211.specs.declared.History.{History}

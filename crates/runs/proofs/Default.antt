@@ -5,7 +5,7 @@ use Prim.Native.Nat.{ℕ}
 use native.Mathlib.Omega.{arith}
 use lib.Dec.{eqb}
 use borrow.Author.Tests.{eq-eqb, eqb-true, eqb-false}
-use Rattle.runs.specs.Refusals.{Accepted, NonFiniteCoefficient}
+use Rattle.runs.specs.Refusals.{no_refusal, non_finite_coefficient}
 use Rattle.runs.specs.Default.{by_default}
 
 module _ {R : Type 0} (refusal : R → ℕ) (finite_in : R → Bool) (refused_by : ℕ → R) (r : R) where

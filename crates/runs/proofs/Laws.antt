@@ -12,7 +12,7 @@ use lib.Seq.{drop-cons, take-suc-set, drop-set-lt, drop-drop, length-take-le, ta
 use borrow.Author.Tests.{ltb-false, lt-ltb, le-ltb}
 use Rattle.lists.proofs.Places.{part_length}
 use Rattle.lists.proofs.Tests.{neither}
-use Rattle.runs.specs.Refusals.{order_refused, ShortOutput}
+use Rattle.runs.specs.Refusals.{order_refused, short_output}
 use lib.Ieee.{Float, nan}
 use Rattle.runs.specs.Runs.{Answer, Step, refused, marked, is_clouded, number_of, refusal_of, clouded_in, placed, written, Filter, Reset, Block, refused_block}
 use Rattle.runs.specs.Runs.{Fresh, answer, step, reset, answers, after, block}

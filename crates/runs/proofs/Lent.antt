@@ -7,7 +7,7 @@ use native.Mathlib.Omega.{arith}
 use lib.Dec.{ltb}
 use lib.ListN.{length}
 use lib.Ieee.{Float}
-use Rattle.runs.specs.Refusals.{Accepted, ShortOutput, BadCall}
+use Rattle.runs.specs.Refusals.{no_refusal, short_output, bad_call}
 use Rattle.runs.specs.Runs.{Filter, Answer, Step, Reset, Block, refused, refusal_of, refused_block, answer, step, reset, answers, after, clouded_in}
 use Rattle.runs.specs.Runs.{written, block}
 use Rattle.runs.specs.Lent.{lent_refusal, lent_step, lent_reset, lent_block}

@@ -1,7 +1,7 @@
 -- 01 "Forgetting rule", demand 3: a list of calls of one filter, the plain filter, and which of their outcomes are equal.
 use Rattle.std.specs.Prelude.{ℕ, suc, ◌≡◌, Bool, true, false, ◌&&◌, ◌||◌, cond, List, [], ◌∷◌, ◌++◌, map, reverse, ltb, length, Float}
 use Rattle.std.proofs.Math.Option.{Option, none, some}
-use Rattle.runs.specs.Refusals.{Accepted, ShortOutput}
+use Rattle.runs.specs.Refusals.{no_refusal, short_output}
 use Rattle.runs.specs.Runs as Runs
 use Rattle.runs.specs.Runs.{Answer, clouded, refused, marked, refusal_of, clouded_in, written, Filter, Fresh}
 

@@ -1,7 +1,7 @@
 -- A record lent as slices: a step, a reset and a block of it, where the slices fit the record. Slices that do not are refused by 13 before
 -- anything else, and the call changes nothing.
 use Rattle.std.specs.Prelude.{ℕ, Bool, cond, List, Float}
-use Rattle.runs.specs.Refusals.{Accepted, BadCall}
+use Rattle.runs.specs.Refusals.{no_refusal, bad_call}
 use Rattle.runs.specs.Runs.{Filter, Step, Reset, Block, refused, refused_block, step, reset, block}
 
 module _ (F : Filter) (fits : F.State → Bool) where

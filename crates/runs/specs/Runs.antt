@@ -2,7 +2,7 @@
 use Rattle.std.specs.Prelude.{ℕ, ◌+◌, ◌≡◌, Bool, true, false, not, ◌||◌, cond, List, [], ◌∷◌, ltb, length, Float}
 use Rattle.std.specs.Float.Ieee.Scale.{finite}
 use Rattle.limits.specs.Zero.{plus_zero}
-use Rattle.runs.specs.Refusals.{Accepted, ShortOutput}
+use Rattle.runs.specs.Refusals.{no_refusal, short_output}
 
 -- a sample answer: Clear with a number, Clouded with a number, or Refused with its refusal number
 pub data Answer : Type 0 where

@@ -5,7 +5,7 @@ use Prim.Native.Nat.{ℕ, ◌<◌, ◌≤◌}
 use lib.ListN.{length}
 use lib.Ieee.{Float}
 use borrow.Author.Tests.{eq-eqb, ne_eqb, lt-ltb, le-ltb}
-use Rattle.runs.specs.Refusals.{Accepted, ShortOutput}
+use Rattle.runs.specs.Refusals.{no_refusal, short_output}
 use Rattle.runs.specs.Runs.{Filter, answers, written}
 use Rattle.steps.specs.Steps.{steps_of}
 

@@ -1,7 +1,7 @@
 -- Single steps, one for each sample of an input, from a new record: the number that refuses, and the output.
 use Rattle.std.specs.Prelude.{ℕ, cond, List, eqb, ltb, length, Float}
 use Rattle.std.specs.Float.{binary64}
-use Rattle.runs.specs.Refusals.{Accepted, ShortOutput}
+use Rattle.runs.specs.Refusals.{no_refusal, short_output}
 use Rattle.runs.specs.Runs.{Filter, answers, written}
 use Rattle.cascade_theory.specs.Cascade.{cascade}
 use Rattle.fir_theory.specs.Fir.{fir, from_coeffs}

@@ -8,13 +8,13 @@ use lib.Dec.{eqb, leb}
 use lib.ListN.{length, length-append, length-replicate}
 use lib.Ieee.{Float, binary64}
 use borrow.Author.Tests.{eqb-true, eqb-false}
-use Rattle.runs.specs.Refusals.{Accepted, InvalidOrder, BadCall, order_refused}
+use Rattle.runs.specs.Refusals.{no_refusal, invalid_order, bad_call, order_refused}
 use Rattle.runs.proofs.Default.{of_either}
 use Rattle.limits.specs.Zero.{plus_zero}
 use Rattle.cascade_theory.specs.Section.{SectionRecord}
 use Rattle.cascade_theory.specs.Cascade.{CascadeRecord}
 use Rattle.cascade.specs.View.{FreshCascade}
-use Rattle.fir_theory.specs.Fir.{FirDesignRecord, ReadyMade, Blackman, blank_taps, holding, from_coeffs, taps_by_default}
+use Rattle.fir_theory.specs.Fir.{FirDesignRecord, ready_made, blackman, blank_taps, holding, from_coeffs, taps_by_default}
 use Rattle.limits.specs.Limits.{max_sections, max_taps}
 use Rattle.fir_theory.specs.Lent.{fits}
 use Rattle.fir_theory.proofs.Laws.{sizes, lengths-fit}

@@ -4,7 +4,7 @@ use mathlib.Core.List.{List, ◌∷◌, ◌++◌}
 use Prim.Native.Nat.{ℕ, suc, ◌+◌}
 use lib.ListN.{length, replicate, length-append}
 use lib.Ieee.{Float, nan}
-use Rattle.runs.specs.Refusals.{Accepted}
+use Rattle.runs.specs.Refusals.{no_refusal}
 use Rattle.j211.specs.J211.{warped_of, coefficients_of, forward, backward, both_ways, refusal, filtered}
 use Rattle.j211.proofs.Dropout.{forward-dropout, forward-length, backward-dropout}
 use Rattle.claims.proofs.j211_dropout.Statement.{statement}

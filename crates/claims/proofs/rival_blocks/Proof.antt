@@ -4,7 +4,7 @@ use mathlib.Core.List.{List}
 use Prim.Native.Nat.{ℕ}
 use native.Mathlib.Omega.{arith}
 use lib.ListN.{drop}
-use Rattle.runs.specs.Refusals.{Accepted}
+use Rattle.runs.specs.Refusals.{no_refusal}
 use Rattle.endian.specs.Endian.{Bytes}
 use Rattle.recordings.specs.Reading.{samples_end, refusal}
 use Rattle.claims.specs.Recordings.{Written}

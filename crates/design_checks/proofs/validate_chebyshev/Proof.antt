@@ -7,7 +7,7 @@ use lib.Ieee.{Float}
 use Rattle.scalar.specs.Operators.{◌⊗◌}
 use Rattle.scalar.specs.Constants.{half}
 use Rattle.limits.specs.Limits.{max_order}
-use Rattle.runs.specs.Refusals.{Accepted, InvalidOrder, InvalidFrequency, InvalidSampleRate, order_refused}
+use Rattle.runs.specs.Refusals.{no_refusal, invalid_order, invalid_frequency, invalid_sample_rate, order_refused}
 use Rattle.design_checks.specs.Checks.{rate_refused, cutoff_refused, checks_then, validate_params, validate_chebyshev}
 use borrow.Author.Rules.{rules}
 use Rattle.design_checks.proofs.validate_chebyshev.Statement.{statement}

@@ -2,7 +2,7 @@
 use mathlib.Core.Path.{◌≡◌, sym, ap₂, ◌∙◌}
 use mathlib.Core.Bool.{Bool, ◌&&◌}
 use Rattle.cascade_theory.specs.Cascade.{CascadeRecord}
-use Rattle.runs.specs.Refusals.{NonFiniteCoefficient}
+use Rattle.runs.specs.Refusals.{non_finite_coefficient}
 use Rattle.runs.proofs.Default.{refused-stays, finite-stays, not_finite}
 use Rattle.cascade_theory.specs.Coefficients.{finite_coefficients}
 use Rattle.fir_theory.specs.Fir.{TapsRecord, finite_taps}

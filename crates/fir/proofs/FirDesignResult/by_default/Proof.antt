@@ -1,6 +1,6 @@
 -- `fir::FirDesignResult::by_default` meets its contract.
 use mathlib.Core.Path.{sym, ap, ◌∙◌}
-use Rattle.runs.specs.Refusals.{NonFiniteCoefficient}
+use Rattle.runs.specs.Refusals.{non_finite_coefficient}
 use Rattle.runs.proofs.Default.{refused-stays, finite-stays, not_finite}
 use Rattle.fir_theory.specs.Fir.{TapsRecord}
 use borrow.Author.Rules.{rules}

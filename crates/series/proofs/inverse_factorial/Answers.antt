@@ -12,8 +12,7 @@ use Rattle.scalar.specs.Constants.{one}
 use Rattle.series.specs.Series.{fact, inv_fact}
 use Rattle.lists.proofs.Table.{at}
 use borrow.Author.Rules.{rules}
-use Rattle.series.proofs.inverse_factorial.Statement.{statement}
-use Rattle.series.proofs.inverse_factorial.Tie as tie
+use Rattle.series.proofs.inverse_factorial.Goals as goal
 
 -- the code's table
 table : List ℕ
@@ -28,18 +27,9 @@ rule : (k : ℕ) → k < 18 → T (eqb (get_or table k 0) (fact k) && leb (get_o
 unfolding table right fact
 rule k h = at right table tt k h
 
-int-to-float-result : tie.Need-int-to-float-result
-unfolding in_float table
-int-to-float-result c =
-    let k = c.before.args.k in
-    and_r (eqb (get_or table k 0) (fact k)) (leb (get_or table k 0) (2 ^ 53)) (rule k (search rules))
-
-returns : tie.Need-returns
+pub returns : goal.returns
 unfolding inv_fact table
 returns c =
-    let k = c.before.args.k in
+    let k = c.args.k in
     ap (λ (n : ℕ). one ⊘ nat n) (eqb→eq (get_or table k 0) (fact k)
     (and_l (eqb (get_or table k 0) (fact k)) (leb (get_or table k 0) (2 ^ 53)) (rule k (search rules))))
-
-pub inverse-factorial-spec : {M : Type 1} → statement M
-inverse-factorial-spec = tie.close (tie.spec (λ c. search rules) (λ c. search rules) int-to-float-result returns)

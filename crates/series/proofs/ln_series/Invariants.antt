@@ -1,0 +1,13 @@
+-- `series::ln_series` meets its contract. The loop's invariant: the coefficients from 1/k on are summed. The measure is k.
+use mathlib.Core.Path.{refl, ◌∙◌}
+use native.Mathlib.Omega.{arith}
+use borrow.Author.Rules.{rules}
+use Rattle.series.specs.Series.{inv}
+use Rattle.series.proofs.Turns.{Summed, summed-start, summed_turn, summed-done, ln-all}
+use Rattle.series.proofs.ln_series.Given as goal
+
+abbrev pub invariant-loop-k : goal.invariant-loop-k
+invariant-loop-k l = Summed inv 1 10 l.s l.p l.k
+
+abbrev pub decreases-loop-k : goal.decreases-loop-k
+decreases-loop-k l = l.k

@@ -1,0 +1,13 @@
+-- `series::sinh_series` meets its contract. The loop's invariant: the coefficients from 1/k! on are summed. The measure is k.
+use mathlib.Core.Path.{refl, ◌∙◌}
+use native.Mathlib.Omega.{arith}
+use borrow.Author.Rules.{rules}
+use Rattle.series.specs.Series.{inv_fact}
+use Rattle.series.proofs.Turns.{Summed, summed-start, summed_turn, summed-done, sinh-all}
+use Rattle.series.proofs.sinh_series.Given as goal
+
+abbrev pub invariant-loop-k : goal.invariant-loop-k
+invariant-loop-k l = Summed inv_fact 3 7 l.s l.p l.k
+
+abbrev pub decreases-loop-k : goal.decreases-loop-k
+decreases-loop-k l = l.k
