@@ -15,7 +15,7 @@ use Rattle.ieee.proofs.Grid.{or_lt}
 use Rattle.ieee.proofs.Arithmetic.{add-correct}
 use Rattle.ieee.proofs.Unique.{nearest-is-round}
 use Rattle.exact.specs.Scaled.{IsValue, scale, with_sign, scaled}
-use Rattle.exact.proofs.Whole.{plus, minus, Is, add_is, mul_is, times-one, signed, sign-plus, sign-minus, abs-sign}
+use Rattle.exact.proofs.Whole.{Is, add_is, mul_is, times-one, signed, sign-plus, sign-minus, abs-sign}
 use Rattle.exact.proofs.Distance.{off_self}
 use Rattle.exact.proofs.Values.{FiniteValue, two-finite, own_value, own_sign, scaled-zero}
 use Rattle.exact.proofs.Rounding.{Near, round-near}
