@@ -83,7 +83,7 @@ module _ (F : Filter) (P : Plain) (fed : P.Fed) (S : Simulates F P fed) where
   besides : {since : Bool} {kept : List Float} {s : F.State} (xs : List Float) → S.Beside since kept s → S.Beside since (reverse_aux xs kept) (after F s xs)
   unfolding after
   besides [] b = b
-  besides {since} {kept} {s} (x ∷ xs) b = rw (step_is F s x (S.good b)) (besides xs (S.turn x b))
+  besides {since} {kept} {s} (x ∷ xs) b = rw (step_is F s x (S.good b)) (besides {kept = x ∷ kept} xs (S.turn x b))
 
   -- the output places
   places_same : {since : Bool} {kept : List Float} {s : F.State} (xs output : List Float) → S.Beside since kept s
@@ -94,7 +94,7 @@ module _ (F : Filter) (P : Plain) (fed : P.Fed) (S : Simulates F P fed) where
   places_same (x ∷ xs) [] b = refl
   places_same {since} {kept} {s} (x ∷ xs) (y ∷ output) b =
       rw (step_is F s x (S.good b)) (ap₂ ◌∷◌ (shown-same (since || P.enough fed (suc (length kept))) (λ e. ap (λ (a : Answer). placed a y) (S.same x b e)))
-      (places_same xs output (S.turn x b)))
+      (places_same {kept = x ∷ kept} xs output (S.turn x b)))
 
   -- the answers, where all are due
   answers-same : {since : Bool} {kept : List Float} {s : F.State} (xs : List Float) → S.Beside since kept s → all (dues P fed since (length kept) xs) ≡ true
@@ -104,7 +104,7 @@ module _ (F : Filter) (P : Plain) (fed : P.Fed) (S : Simulates F P fed) where
   answers-same {since} {kept} {s} (x ∷ xs) b e =
       let d = since || P.enough fed (suc (length kept)) in
       let ds = dues P fed since (suc (length kept)) xs in
-      rw (step_is F s x (S.good b)) (ap₂ ◌∷◌ (S.same x b (both d (all ds) e).0) (answers-same xs (S.turn x b) (both d (all ds) e).1))
+      rw (step_is F s x (S.good b)) (ap₂ ◌∷◌ (S.same x b (both d (all ds) e).0) (answers-same {kept = x ∷ kept} xs (S.turn x b) (both d (all ds) e).1))
 
   -- ---- one call: all of its outcome where all is due, and what is seen of it anyway
 
@@ -161,12 +161,12 @@ module _ (F : Filter) (P : Plain) (fed : P.Fed) (S : Simulates F P fed) where
       → seen P fed since kept calls (run F s calls) ≡ seen P fed since kept calls (plain_run P fed kept calls)
   unfolding seen run plain_run
   all_seen [] b = refl
-  all_seen (c ∷ calls) b = ap₂ ◌∷◌ (call-seen c b) (all_seen calls (call-beside c b))
+  all_seen {since} {kept} (c ∷ calls) b = ap₂ ◌∷◌ (call-seen c b) (all_seen {since = since || is_reset c} {kept = kept_after kept c} calls (call-beside c b))
 
   pub all_same : {kept : List Float} {s : F.State} (calls : List Call) → S.Beside true kept s → run F s calls ≡ plain_run P fed kept calls
   unfolding run plain_run
   all_same [] b = refl
-  all_same {kept} (c ∷ calls) b = ap₂ ◌∷◌ (call_same c b (all-due P fed (length kept) (answered c))) (all_same calls (call-beside c b))
+  all_same {kept} (c ∷ calls) b = ap₂ ◌∷◌ (call_same c b (all-due P fed (length kept) (answered c))) (all_same {kept = kept_after kept c} calls (call-beside c b))
 
 -- ---- a record that fails its check
 module _ (F : Filter) (s : F.State) (h : F.check s ≡ false) where

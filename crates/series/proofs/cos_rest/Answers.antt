@@ -1,6 +1,5 @@
 -- `series::cos_rest` meets its contract.
 use Rattle.series.specs.Series.{cos_rest}
-use borrow.Author.Rules.{rules}
 use Rattle.series.proofs.cos_rest.Goals as goal
 
 pub returns : goal.returns

@@ -1,8 +1,7 @@
 -- `series::exp_series` meets its contract. The loop's invariant: the coefficients from 1/j! on are summed. The measure is j.
 use mathlib.Core.Path.{◌≡◌, ap, ◌∙◌}
-use Prim.Native.Nat.{ℕ, ◌-◌, ◌≤◌}
+use Prim.Native.Nat.{ℕ, ◌-◌}
 use native.Mathlib.Omega.{arith}
-use borrow.Author.Rules.{rules}
 use Rattle.series.specs.Series.{inv_fact}
 use Rattle.series.proofs.Turns.{from, from_zero, from-turn, exp-all}
 use Rattle.series.proofs.exp_series.Goals as goal

@@ -1,10 +1,8 @@
 -- `series::exp_series` meets its contract. The loop's invariant: the coefficients from 1/j! on are summed. The measure is j.
-use mathlib.Core.Path.{◌≡◌, ap, ◌∙◌}
-use Prim.Native.Nat.{ℕ, ◌-◌, ◌≤◌}
-use native.Mathlib.Omega.{arith}
-use borrow.Author.Rules.{rules}
+use mathlib.Core.Path.{◌≡◌}
+use Prim.Native.Nat.{◌-◌, ◌≤◌}
 use Rattle.series.specs.Series.{inv_fact}
-use Rattle.series.proofs.Turns.{from, from_zero, from-turn, exp-all}
+use Rattle.series.proofs.Turns.{from}
 use Rattle.series.proofs.exp_series.Given as goal
 
 abbrev pub invariant-loop-j : goal.invariant-loop-j

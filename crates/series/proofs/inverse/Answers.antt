@@ -1,7 +1,6 @@
 -- `series::inverse` meets its contract.
 use mathlib.Core.Path.{refl}
 use Rattle.series.specs.Series.{inv}
-use borrow.Author.Rules.{rules}
 use Rattle.series.proofs.inverse.Goals as goal
 
 pub returns : goal.returns

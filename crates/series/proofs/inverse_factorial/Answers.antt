@@ -5,8 +5,7 @@ use mathlib.Core.List.{List, [], ◌∷◌}
 use mathlib.Core.Path.{ap}
 use lib.Dec.{T, eqb, leb, eqb→eq}
 use lib.ListN.{get_or}
-use lib.Ieee.{in_float}
-use lib.Ieee.Fits.{and_l, and_r}
+use lib.Ieee.Fits.{and_l}
 use Rattle.scalar.specs.Operators.{◌⊘◌, nat}
 use Rattle.scalar.specs.Constants.{one}
 use Rattle.series.specs.Series.{fact, inv_fact}

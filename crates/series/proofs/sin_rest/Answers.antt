@@ -1,6 +1,5 @@
 -- `series::sin_rest` meets its contract.
 use Rattle.series.specs.Series.{sin_rest}
-use borrow.Author.Rules.{rules}
 use Rattle.series.proofs.sin_rest.Goals as goal
 
 pub returns : goal.returns

@@ -1,9 +1,8 @@
 -- `series::sinh_series` meets its contract. The loop's invariant: the coefficients from 1/k! on are summed. The measure is k.
 use mathlib.Core.Path.{refl, ◌∙◌}
 use native.Mathlib.Omega.{arith}
-use borrow.Author.Rules.{rules}
 use Rattle.series.specs.Series.{inv_fact}
-use Rattle.series.proofs.Turns.{Summed, summed-start, summed_turn, summed-done, sinh-all}
+use Rattle.series.proofs.Turns.{summed-start, summed_turn, summed-done, sinh-all}
 use Rattle.series.proofs.sinh_series.Goals as goal
 
 pub loop-k-init : goal.loop-k-init
