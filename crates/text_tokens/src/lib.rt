@@ -2,10 +2,10 @@
 #![tactic(auto)]
 
 ghost use Rattle.std.specs.Prelude.{◌≡◌};
-ghost use Rattle.text_tokens.specs.Tokens.{between as Tokens·between, is_hex_digit, in_class, run_end, next_token, same_bytes};
+ghost use Rattle.text_tokens.specs.Tokens.{between, is_hex_digit, in_class, run_end, next_token, same_bytes};
 
 // What kind of byte.
-#[derive(Drop)]
+#[derive(Clone, Copy)]
 pub enum Class {
     Space,
     NotSpace,
@@ -14,7 +14,7 @@ pub enum Class {
 }
 
 // The bytes of a token: from start up to, not including, end.
-#[derive(Drop)]
+#[derive(Clone, Copy)]
 pub struct Span {
     pub start: usize,
     pub end: usize,
@@ -22,7 +22,7 @@ pub struct Span {
 
 // Whether b lies from lo to hi.
 pub fn between(lo: u8, hi: u8, b: u8) -> bool
-    ensures { result ≡ Tokens·between lo hi b }
+    ensures { result ≡ between lo hi b }
 {
     if b < lo {
         return false;
