@@ -111,7 +111,7 @@ module _ (capacity : ℕ) (f : Format) (ts : List Float) (n : ℕ) where
   pub answers-full : {L : List Float} {r : TapsRecord} (xs : List Float) → Full L r → answers (fir capacity f) r xs ≡ told f ts n L xs
   unfolding answers told
   answers-full [] p = refl
-  answers-full {L} {r} (x ∷ xs) p = answers-cons (fir capacity f) r x xs p.good ∙ ap₂ ◌∷◌ (answer-full x p) (answers-full xs (full-turn x p))
+  answers-full {L} {r} (x ∷ xs) p = answers-cons (fir capacity f) r x xs p.good ∙ ap₂ ◌∷◌ (answer-full x p) (answers-full {L = x ∷ L} {r = next r x} xs (full-turn x p))
 
   -- ---- the record after the samples: its first n places hold the newest, later places stay
   abbrev pub filled : List Float → TapsRecord → TapsRecord
@@ -131,7 +131,7 @@ module _ (capacity : ℕ) (f : Format) (ts : List Float) (n : ℕ) where
       let e : r.samples ≡ take n L ++ drop n r.samples = sym (take-append-drop n r.samples)
       ∙ ap (λ (l : List Float). l ++ drop n r.samples) p.newest in
       λ i. record { taps = r.taps; samples = e i; length = r.length; held = r.held; window = r.window }
-  after-full {L} {r} (x ∷ xs) p = after-cons (fir capacity f) r x xs p.good ∙ after-full xs (full-turn x p) ∙ filled_next (reverse_aux xs (x ∷ L)) x p
+  after-full {L} {r} (x ∷ xs) p = after-cons (fir capacity f) r x xs p.good ∙ after-full {L = x ∷ L} {r = next r x} xs (full-turn x p) ∙ filled_next (reverse_aux xs (x ∷ L)) x p
 
 -- ---- the places of a block's output
 pub written-told : (f : Format) (ts : List Float) (n : ℕ) (L xs output : List Float) → length xs ≤ length output → written (told f ts n L xs) output
