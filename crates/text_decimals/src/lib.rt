@@ -4,19 +4,19 @@
 ghost use Rattle.std.specs.Prelude.{◌≡◌, ◌≤◌, ◌^◌, min, pos};
 ghost use Rattle.std.specs.Float.{binary64};
 ghost use Rattle.std.specs.Float.Ieee.{of_int};
-ghost use Rattle.text_decimals.specs.Decimals.{digit as Decimals·digit, value_after, count_of, decimal as Decimals·decimal};
+ghost use Rattle.text_decimals.specs.Decimals.{digit, value_after, count_of, decimal};
 
 use text_tokens::{Class, between, run_of};
 
 // A count, or that the token is none.
-#[derive(Drop)]
+#[derive(Clone, Copy)]
 pub enum CountToken {
     Count(u64),
     NotACount,
 }
 
 // A float, or that the token is none.
-#[derive(Drop)]
+#[derive(Clone, Copy)]
 pub enum FloatToken {
     Number(f64),
     NotANumber,
@@ -54,7 +54,7 @@ const POWERS_OF_TEN: [u64; 23] = [
 
 // The value of a digit, and 0 of any other byte.
 pub fn digit(b: u8) -> u64
-    ensures { result ≡ Decimals·digit b }
+    ensures { result ≡ digit b }
 {
     if between(48, 57, b) {
         return (b - 48) as u64;
@@ -111,7 +111,7 @@ fn power_of_ten(k: usize) -> f64
 
 // Digits before a point and digits after it.
 pub fn decimal(whole: &[u8], fraction: &[u8]) -> FloatToken
-    ensures { result ≡ Decimals·decimal whole.now fraction.now }
+    ensures { result ≡ decimal whole.now fraction.now }
 {
     if whole.len() < 1 {
         return FloatToken::NotANumber;
