@@ -9,7 +9,7 @@ ghost use Rattle.sections.specs.View.{first_view};
 use scalar::is_finite;
 
 // Coefficients and one carried value.
-#[derive(Drop)]
+#[derive(Clone, Copy)]
 pub struct FirstOrder {
     pub b0: f64,
     pub b1: f64,
@@ -18,7 +18,7 @@ pub struct FirstOrder {
 }
 
 // What a first-order part answers to a sample, and the part after it.
-#[derive(Drop)]
+#[derive(Clone, Copy)]
 pub struct FirstOrderResult {
     pub out: f64,
     pub first: FirstOrder,

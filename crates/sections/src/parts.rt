@@ -14,7 +14,7 @@ use super::section::{ProcessResult, Section};
 use limits::MAX_SECTIONS;
 
 // A number that came out of the sections, and the sections after it.
-#[derive(Drop)]
+#[derive(Clone, Copy)]
 pub struct PassResult {
     pub out: f64,
     pub sections: [Section; MAX_SECTIONS],

@@ -9,7 +9,7 @@ ghost use Rattle.sections.specs.View.{section_view};
 use scalar::is_finite;
 
 // Coefficients and two carried values.
-#[derive(Drop)]
+#[derive(Clone, Copy)]
 pub struct Section {
     pub b0: f64,
     pub b1: f64,
@@ -21,7 +21,7 @@ pub struct Section {
 }
 
 // What a section answers to a sample, and the section after it.
-#[derive(Drop)]
+#[derive(Clone, Copy)]
 pub struct ProcessResult {
     pub out: f64,
     pub section: Section,
