@@ -1,4 +1,4 @@
-/* The pulse conditioning filters for C: the functions of libcapi.a (`rt staticlib capi` writes it to target/staticlib/).
+/* The pulse conditioning filters for C: the functions of libcapi.a (`rt lib` in crates/capi writes it to crates/capi/out/).
  *
  * A filter's state is in the caller's memory, in the arrays described below; the library keeps nothing between two calls,
  * allocates nothing and calls no function of a math library. Calls may run at the same time where none writes a slice that
