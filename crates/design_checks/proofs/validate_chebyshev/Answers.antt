@@ -9,9 +9,7 @@ use Rattle.scalar.specs.Constants.{half}
 use Rattle.limits.specs.Limits.{max_order}
 use Rattle.runs.specs.Refusals.{no_refusal, invalid_order, invalid_frequency, invalid_sample_rate, order_refused}
 use Rattle.design_checks.specs.Checks.{rate_refused, cutoff_refused, checks_then, validate_params, validate_chebyshev}
-use borrow.Author.Rules.{rules}
-use Rattle.design_checks.proofs.validate_chebyshev.Statement.{statement}
-use Rattle.design_checks.proofs.validate_chebyshev.Tie as tie
+use Rattle.design_checks.proofs.validate_chebyshev.Goals as goal
 
 abbrev numbers : Bool → Bool → Bool → ℕ → ℕ
 numbers a b c next = cond a invalid_order (cond b invalid_sample_rate (cond c invalid_frequency next))
@@ -37,25 +35,22 @@ drew-none cutoff rate n next = go (order_refused n max_order) (rate_refused rate
     go false false true h = absurd (omega (arith, h))
     go false false false h = refl
 
-returns : tie.Need-returns
+pub returns-then-refusal-ne0 : goal.returns-then-refusal-ne0
 unfolding validate_chebyshev
-returns c = let a = c.before.before.args in
-    let v = c.before.validate-params in
-    v.ensures ∙ drew a.cutoff a.sample-rate a.order _ (λ e. c.if1.true (v.ensures ∙ e))
+returns-then-refusal-ne0 c = let a = c.args in
+    let v = c.validate_params-refusal in
+    v.ensures ∙ drew a.cutoff a.sample_rate a.order _ (λ e. c.if-refusal-ne0.true (v.ensures ∙ e))
 
-returns-2 : tie.Need-returns-2
+pub returns-then-not_positive : goal.returns-then-not_positive
 unfolding validate_chebyshev
-returns-2 c = let d = c.before.before in
-    let a = d.before.before.args in
-    rw (sym c.before.not-positive.ensures ∙ c.if2.true)
-    (drew-none a.cutoff a.sample-rate a.order _ (sym d.before.validate-params.ensures ∙ d.if1.false))
+returns-then-not_positive c = let d = c in
+    let a = d.args in
+    rw (sym c.not_positive.ensures ∙ c.if-not_positive.true)
+    (drew-none a.cutoff a.sample_rate a.order _ (sym d.validate_params-refusal.ensures ∙ d.if-refusal-ne0.false))
 
-returns-3 : tie.Need-returns-3
+pub returns : goal.returns
 unfolding validate_chebyshev
-returns-3 c = let d = c.before.before in
-    let a = d.before.before.args in
-    rw (sym c.before.not-positive.ensures ∙ c.if2.false)
-    (drew-none a.cutoff a.sample-rate a.order _ (sym d.before.validate-params.ensures ∙ d.if1.false))
-
-pub validate-chebyshev-spec : {M : Type 1} → statement M
-validate-chebyshev-spec = tie.close (tie.spec (λ c κs. search rules) returns (λ c κs. search rules) returns-2 returns-3)
+returns c = let d = c in
+    let a = d.args in
+    rw (sym c.not_positive.ensures ∙ c.if-not_positive.false)
+    (drew-none a.cutoff a.sample_rate a.order _ (sym d.validate_params-refusal.ensures ∙ d.if-refusal-ne0.false))

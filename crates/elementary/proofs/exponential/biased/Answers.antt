@@ -1,0 +1,10 @@
+-- `elementary::exponential::biased` meets its contract.
+use Rattle.ieee.proofs.Patterns.{below_no_nan}
+use Rattle.elementary.proofs.Powers.{biased-below, biased-is}
+use Rattle.elementary.proofs.exponential.biased.Goals as goal
+
+pub float_from_bits-result : goal.float_from_bits-result
+float_from_bits-result c = below_no_nan _ (biased-below c.args.b c.requires.fact_2)
+
+pub returns : goal.returns
+returns c = biased-is c.args.b c.requires.fact_1 c.requires.fact_2

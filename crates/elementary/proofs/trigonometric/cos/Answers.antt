@@ -1,0 +1,15 @@
+-- `elementary::trigonometric::cos` meets its contract.
+use lib.Ieee as Ieee
+use Rattle.elementary.specs.Trigonometric.{cos_of}
+use Rattle.elementary.proofs.Bounds.{turnable-is, turnable-within}
+use Rattle.elementary.proofs.trigonometric.cos.Goals as goal
+
+pub reduced-requires : goal.reduced-requires
+reduced-requires c = turnable-within _ (turnable-is _ c.abs.ensures c.if-abs.true)
+
+pub returns-then-abs : goal.returns-then-abs
+unfolding cos_of
+returns-then-abs c = let e = c in rw (c.cos_in.ensures, c.reduced.ensures, turnable-is _ e.abs.ensures e.if-abs.true)
+
+pub returns-else-abs : goal.returns-else-abs
+returns-else-abs c = unfold cos_of Ieee.div Ieee.of_bits in rw (turnable-is _ c.abs.ensures c.if-abs.false)
