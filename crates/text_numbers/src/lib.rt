@@ -3,16 +3,15 @@
 
 ghost use Rattle.std.specs.Prelude.{◌≡◌, ◌+◌, ◌*◌, ◌/◌, ◌≤◌, min, length};
 ghost use Rattle.lists.specs.Copies.{copied};
-ghost use Rattle.text_decimals.specs.Decimals.{digit as Decimals·digit, value_after};
-ghost use Rattle.text_numbers.specs.Numbers.{unsigned as Numbers·unsigned, negated as Numbers·negated};
+ghost use Rattle.text_decimals.specs.Decimals.{digit, value_after};
+ghost use Rattle.text_numbers.specs.Numbers.{unsigned, negated, signed, named, bits_of, float_of};
 ghost use Rattle.text_numbers.specs.Pairs.{is_pairs, pairs_of};
-ghost use Rattle.text_numbers.specs.Numbers.{signed as Numbers·signed, named as Numbers·named, bits_of, float_of};
 
 use text_decimals::{FloatToken, decimal, digit};
 use text_tokens::{Class, run_of, same_bytes};
 
 // 64 bits, or that the token is none.
-#[derive(Drop)]
+#[derive(Clone, Copy)]
 pub enum BitsToken {
     Bits(u64),
     NotBits,
@@ -34,7 +33,7 @@ fn hexadecimal(digits: &[u8]) -> u64
 
 // Digits, and optionally a point and more digits.
 fn unsigned(token: &[u8]) -> FloatToken
-    ensures { result ≡ Numbers·unsigned token.now }
+    ensures { result ≡ unsigned token.now }
 {
     let n = run_of(Class::Digit, token, 0);
     if n >= token.len() {
@@ -55,7 +54,7 @@ fn unsigned(token: &[u8]) -> FloatToken
 }
 
 fn negated(f: FloatToken) -> FloatToken
-    ensures { result ≡ Numbers·negated f }
+    ensures { result ≡ negated f }
 {
     match f {
         FloatToken::Number(x) => FloatToken::Number(-x),
@@ -65,7 +64,7 @@ fn negated(f: FloatToken) -> FloatToken
 
 // An optional `-`.
 fn signed(token: &[u8]) -> FloatToken
-    ensures { result ≡ Numbers·signed token.now }
+    ensures { result ≡ signed token.now }
 {
     if token.len() < 1 {
         return FloatToken::NotANumber;
@@ -79,7 +78,7 @@ fn signed(token: &[u8]) -> FloatToken
 
 // `NaN`, `inf`, `-inf`, or a decimal.
 fn named(token: &[u8]) -> FloatToken
-    ensures { result ≡ Numbers·named token.now }
+    ensures { result ≡ named token.now }
 {
     if same_bytes(token, b"NaN") {
         return FloatToken::Number(0.0 / 0.0);
@@ -127,7 +126,7 @@ pub fn is_pairs(token: &[u8]) -> bool
 
 // The byte of two digits, the higher one first.
 fn pair(high: u8, low: u8) -> u8
-    ensures { result ≡ Decimals·digit high * 16 + Decimals·digit low }
+    ensures { result ≡ digit high * 16 + digit low }
 {
     (digit(high) * 16 + digit(low)) as u8
 }

@@ -2,7 +2,6 @@
 use native.Mathlib.Omega.{arith}
 use Rattle.text_decimals.proofs.Digits.{result-small, cap-turn, cap-done}
 use Rattle.text_decimals.proofs.decimal_after.Goals as goal
-use Rattle.text_decimals.proofs.decimal_after.Goals.{then-value-gt-LIMIT, else-value-gt-LIMIT}
 
 pub overflow_add-value : goal.overflow_add-value
 overflow_add-value c = omega (arith, result-small _ c.digit.ensures, c.loop-i.invariant.0)
