@@ -11,7 +11,7 @@ ghost use Rattle.pipeline.specs.View.{four_view, line_view, drained_view, ran_vi
 use sections::Section;
 
 // Four sections, which a sample passes from s0 to s3.
-#[derive(Drop)]
+#[derive(Clone, Copy)]
 pub struct Four {
     pub s0: Section,
     pub s1: Section,
@@ -20,7 +20,7 @@ pub struct Four {
 }
 
 // What `run` returns: whether the samples were run, and the sections after them.
-#[derive(Drop)]
+#[derive(Clone, Copy)]
 pub struct RunResult {
     pub four: Four,
     pub done: bool,
@@ -28,7 +28,7 @@ pub struct RunResult {
 
 // Four sections at work: each has taken one number fewer than the section before it. y0, y1 and y2 are what sections 0, 1
 // and 2 answered last, which the sections behind them have yet to take.
-#[derive(Drop)]
+#[derive(Clone, Copy)]
 struct Line {
     four: Four,
     y0: f64,
@@ -37,14 +37,14 @@ struct Line {
 }
 
 // A number that came out of the line, and the line after it.
-#[derive(Drop)]
+#[derive(Clone, Copy)]
 struct AdvanceResult {
     out: f64,
     line: Line,
 }
 
 // The last three numbers out of a line, and its sections after them.
-#[derive(Drop)]
+#[derive(Clone, Copy)]
 struct DrainResult {
     four: Four,
     y0: f64,
