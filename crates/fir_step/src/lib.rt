@@ -18,21 +18,21 @@ use runs::Answer;
 pub const READY_MADE: usize = 4;
 
 // What a step answers, and the held count after it.
-#[derive(Drop)]
+#[derive(Clone, Copy)]
 pub struct UpdateResult {
     pub answer: Answer,
     pub held: usize,
 }
 
 // What a reset returns: 0 or the refusal number, and the held count after it.
-#[derive(Drop)]
+#[derive(Clone, Copy)]
 pub struct ResetResult {
     pub refusal: u8,
     pub held: usize,
 }
 
 // The number answered to a sample, its mark, and the held count after it.
-#[derive(Drop)]
+#[derive(Clone, Copy)]
 struct PassResult {
     out: f64,
     clouded: bool,

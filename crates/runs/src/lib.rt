@@ -41,7 +41,7 @@ pub const CHANNEL_NOT_PRESENT: u8 = 24;
 pub const NON_FINITE_COEFFICIENT: u8 = 25;
 
 // 01's run answer.
-#[derive(Drop)]
+#[derive(Clone, Copy)]
 pub enum Answer {
     // The number, from finite samples alone.
     Clear(f64),
