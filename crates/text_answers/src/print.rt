@@ -1,7 +1,7 @@
 // The bytes of an answer, put into a lent output from a place on. Each function returns the place after its text, which
 // lies past the output's end where the text did not fit; then the output is as it was.
 ghost use Rattle.std.specs.Prelude.{◌≡◌, ◌≤◌, ◌<◌, length};
-ghost use Rattle.text_answers.specs.Texts.{put, place_after, glyph as Texts·glyph, digits_of, float_text, Fewest, CountPut};
+ghost use Rattle.text_answers.specs.Texts.{put, place_after, glyph, digits_of, float_text, Fewest, CountPut};
 
 pub fn put_bytes(output: &mut [u8], at: usize, text: &[u8]) -> usize
     ensures { (output.new ≡ put output.old at text.now)
@@ -20,7 +20,7 @@ pub fn put_bytes(output: &mut [u8], at: usize, text: &[u8]) -> usize
 
 fn glyph(d: u64) -> u8
     requires { d < 16 }
-    ensures { result ≡ Texts·glyph d }
+    ensures { result ≡ glyph d }
 {
     if d < 10 { 48 + d as u8 } else { 55 + d as u8 }
 }
