@@ -17,7 +17,7 @@ use pipeline::Four;
 use runs::Answer;
 use sections::{FirstOrder, Section, enter, pass_sections, reset_sections, sections_are_finite};
 
-#[derive(Drop)]
+#[derive(Clone, Copy)]
 pub struct Cascade {
     pub sections: [Section; Cascade::MAX_SECTIONS],
     // How many of the sections are used, from section 0 on.
@@ -37,14 +37,14 @@ pub struct UpdateResult {
 }
 
 // What `reset` returns: 0 or the refusal number, and the cascade.
-#[derive(Drop)]
+#[derive(Clone, Copy)]
 pub struct ResetResult {
     pub refusal: u8,
     pub cascade: Cascade,
 }
 
 // What `block` returns: 0 or the refusal number, how many answers were Clouded, and the cascade.
-#[derive(Drop)]
+#[derive(Clone, Copy)]
 pub struct BlockResult {
     pub refusal: u8,
     pub clouded: usize,
@@ -52,7 +52,7 @@ pub struct BlockResult {
 }
 
 // A number that came out of the cascade, and the cascade after it.
-#[derive(Drop)]
+#[derive(Clone, Copy)]
 struct PassResult {
     out: f64,
     cascade: Cascade,

@@ -1,0 +1,15 @@
+-- `cascade::Cascade::block` meets its contract: skewed or plain, the block is the same.
+use mathlib.Core.Path.{sym, ◌∙◌}
+use lib.Ieee.{binary64}
+use Rattle.runs.proofs.Laws.{block_refused, block-short}
+use Rattle.cascade_theory.specs.Cascade.{cascade}
+use Rattle.cascade.proofs.Cascade.block.Goals as goal
+
+pub returns-then-not-check : goal.returns-then-not-check
+returns-then-not-check c = rw c.refused_block.ensures (block_refused (cascade binary64) _ _ _
+    (sym c.check.ensures ∙ c.if-not-check.true))
+
+pub returns-then-output-input : goal.returns-then-output-input
+returns-then-output-input c =
+    rw c.refused_block-then-output-input.ensures (block-short (cascade binary64) _ _ _ (sym c.check.ensures ∙ c.if-not-check.false)
+    c.if-output-input.true)
