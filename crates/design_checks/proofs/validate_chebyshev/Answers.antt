@@ -43,14 +43,12 @@ returns-then-refusal-ne0 c = let a = c.args in
 
 pub returns-then-not_positive : goal.returns-then-not_positive
 unfolding validate_chebyshev
-returns-then-not_positive c = let d = c in
-    let a = d.args in
+returns-then-not_positive c = let a = c.args in
     rw (sym c.not_positive.ensures ∙ c.if-not_positive.true)
-    (drew-none a.cutoff a.sample_rate a.order _ (sym d.validate_params-refusal.ensures ∙ d.if-refusal-ne0.false))
+    (drew-none a.cutoff a.sample_rate a.order _ (sym c.validate_params-refusal.ensures ∙ c.if-refusal-ne0.false))
 
 pub returns : goal.returns
 unfolding validate_chebyshev
-returns c = let d = c in
-    let a = d.args in
+returns c = let a = c.args in
     rw (sym c.not_positive.ensures ∙ c.if-not_positive.false)
-    (drew-none a.cutoff a.sample_rate a.order _ (sym d.validate_params-refusal.ensures ∙ d.if-refusal-ne0.false))
+    (drew-none a.cutoff a.sample_rate a.order _ (sym c.validate_params-refusal.ensures ∙ c.if-refusal-ne0.false))

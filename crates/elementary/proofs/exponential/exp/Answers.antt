@@ -7,7 +7,6 @@ use mir.ValLaws.{to_z-of_z}
 use Rattle.elementary.specs.Exponential.{Scale, exp_of, exp_count}
 use Rattle.elementary.proofs.Bounds.{ranged, ranged-within}
 use Rattle.scalar.proofs.Signs.{nan-test}
-use Rattle.elementary.specs.Exponential.{exp_of, exp_count}
 use Rattle.elementary.proofs.exponential.exp.Goals as goal
 
 pub returns-then-x : goal.returns-then-x
@@ -27,19 +26,17 @@ nearest-requires c = let x = c.args.x in
     ranged-within x (ranged x c.if-x.false c.if-x-2.false c.if-x-3.false)
 
 pub exp_main-requires : goal.exp_main-requires
-exp_main-requires c = let d = c in
-    let x = d.args.x in
+exp_main-requires c = let x = c.args.x in
     subst⁻¹ Scale (to_z-of_z w64 c.nearest.result (sfits_of c.nearest.type_inv) ∙ c.nearest.ensures)
-    (ranged x d.if-x.false d.if-x-2.false d.if-x-3.false).1
+    (ranged x c.if-x.false c.if-x-2.false c.if-x-3.false).1
 
 pub returns : goal.returns
 unfolding exp_of exp_count
-returns c = let d = c in
-    rw (
-      c.exp_main.ensures,
-      to_z-of_z w64 c.nearest.result (sfits_of c.nearest.type_inv),
-      c.nearest.ensures,
-      d.if-x.false,
-      d.if-x-2.false,
-      nan-test d.args.x ∙ d.if-x-3.false,
-    )
+returns c = rw (
+  c.exp_main.ensures,
+  to_z-of_z w64 c.nearest.result (sfits_of c.nearest.type_inv),
+  c.nearest.ensures,
+  c.if-x.false,
+  c.if-x-2.false,
+  nan-test c.args.x ∙ c.if-x-3.false,
+)

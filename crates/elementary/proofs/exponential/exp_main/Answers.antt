@@ -6,5 +6,4 @@ use Rattle.elementary.proofs.exponential.exp_main.Goals as goal
 
 pub returns : goal.returns
 unfolding exp_main
-returns c = let s = c in
-    rw (c.exp_series.ensures, c.exp_rest.ensures, c.power_of_two.ensures, to_z-of_z w64 s.args.k s.ranges.k)
+returns c = rw (c.exp_series.ensures, c.exp_rest.ensures, c.power_of_two.ensures, to_z-of_z w64 c.args.k c.ranges.k)

@@ -9,7 +9,7 @@ reduced-requires c = turnable-within _ (turnable-is _ c.abs.ensures c.if-abs.tru
 
 pub returns-then-abs : goal.returns-then-abs
 unfolding cos_of
-returns-then-abs c = let e = c in rw (c.cos_in.ensures, c.reduced.ensures, turnable-is _ e.abs.ensures e.if-abs.true)
+returns-then-abs c = rw (c.cos_in.ensures, c.reduced.ensures, turnable-is _ c.abs.ensures c.if-abs.true)
 
 pub returns-else-abs : goal.returns-else-abs
 returns-else-abs c = unfold cos_of Ieee.div Ieee.of_bits in rw (turnable-is _ c.abs.ensures c.if-abs.false)

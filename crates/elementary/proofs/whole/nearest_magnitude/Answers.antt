@@ -12,36 +12,30 @@ truncating_f64_to_u64-n-requires c = let t = c.args.t in record {
 }
 
 pub int_to_float-rest : goal.int_to_float-rest
-int_to_float-rest c = let d = c in
-    whole_float d.truncating_f64_to_u64-n.result (whole-small d.args.t d.abs-a.result d.truncating_f64_to_u64-n.result
-    d.requires d.abs-a.ensures d.truncating_f64_to_u64-n.ensures)
+int_to_float-rest c = whole_float c.truncating_f64_to_u64-n.result (whole-small c.args.t c.abs-a.result c.truncating_f64_to_u64-n.result
+    c.requires c.abs-a.ensures c.truncating_f64_to_u64-n.ensures)
 
 pub returns-then-rest : goal.returns-then-rest
-returns-then-rest c = let d = c in
-    let t = d.args.t in
-    rw c.if-rest.true at (by-rest t d.abs-a.result d.truncating_f64_to_u64-n.result (passes (fits binary64 t) d.well_formed.0.1)
-    d.requires d.abs-a.ensures d.truncating_f64_to_u64-n.ensures)
+returns-then-rest c = let t = c.args.t in
+    rw c.if-rest.true at (by-rest t c.abs-a.result c.truncating_f64_to_u64-n.result (passes (fits binary64 t) c.well_formed.0.1)
+    c.requires c.abs-a.ensures c.truncating_f64_to_u64-n.ensures)
 
 pub returns-then-rest-2 : goal.returns-then-rest-2
-returns-then-rest-2 c = let d = c in
-    let t = d.args.t in
-    rw (c.if-rest.false, c.if-rest-2.true) at (by-rest t d.abs-a.result d.truncating_f64_to_u64-n.result
-    (passes (fits binary64 t) d.well_formed.0.1) d.requires d.abs-a.ensures d.truncating_f64_to_u64-n.ensures)
+returns-then-rest-2 c = let t = c.args.t in
+    rw (c.if-rest.false, c.if-rest-2.true) at (by-rest t c.abs-a.result c.truncating_f64_to_u64-n.result
+    (passes (fits binary64 t) c.well_formed.0.1) c.requires c.abs-a.ensures c.truncating_f64_to_u64-n.ensures)
 
 pub returns-else-rest-2 : goal.returns-else-rest-2
-returns-else-rest-2 c = let d = c in
-    let t = d.args.t in
-    rw (c.if-rest.false, c.if-rest-2.false) at (by-rest t d.abs-a.result d.truncating_f64_to_u64-n.result
-    (passes (fits binary64 t) d.well_formed.0.1) d.requires d.abs-a.ensures d.truncating_f64_to_u64-n.ensures)
+returns-else-rest-2 c = let t = c.args.t in
+    rw (c.if-rest.false, c.if-rest-2.false) at (by-rest t c.abs-a.result c.truncating_f64_to_u64-n.result
+    (passes (fits binary64 t) c.well_formed.0.1) c.requires c.abs-a.ensures c.truncating_f64_to_u64-n.ensures)
 
 pub overflow_add-result : goal.overflow_add-result
-overflow_add-result c = let d = c in
-    let h = whole-small d.args.t d.abs-a.result d.truncating_f64_to_u64-n.result d.requires
-    d.abs-a.ensures d.truncating_f64_to_u64-n.ensures in
+overflow_add-result c = let h = whole-small c.args.t c.abs-a.result c.truncating_f64_to_u64-n.result c.requires
+    c.abs-a.ensures c.truncating_f64_to_u64-n.ensures in
     record { fits = omega arith }
 
 pub overflow_add-result-else-rest-2 : goal.overflow_add-result-else-rest-2
-overflow_add-result-else-rest-2 c = let d = c in
-    let h = whole-small d.args.t d.abs-a.result d.truncating_f64_to_u64-n.result d.requires
-    d.abs-a.ensures d.truncating_f64_to_u64-n.ensures in
+overflow_add-result-else-rest-2 c = let h = whole-small c.args.t c.abs-a.result c.truncating_f64_to_u64-n.result c.requires
+    c.abs-a.ensures c.truncating_f64_to_u64-n.ensures in
     record { fits = omega arith }
