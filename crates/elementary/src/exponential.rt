@@ -20,8 +20,8 @@ fn exp_rest(x: f64, k: i64) -> f64
 
 // 2 to the (b - 1023), by its bit pattern.
 fn biased(b: u64) -> f64
-    requires fact_1 { 0 < b }
-    requires fact_2 { b < 2047 }
+    requires above_zero { 0 < b }
+    requires below_top { b < 2047 }
     ensures { result ≡ fin false 1 (minus b 1023) }
 {
     f64::from_bits(b * 0x10_0000_0000_0000)

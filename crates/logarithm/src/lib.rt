@@ -32,12 +32,12 @@ struct LiftResult {
 
 // A subnormal's digits t, doubled until there are 53.
 fn lift(t: u64) -> LiftResult
-    requires fact_1 { 0 < t }
-    requires fact_2 { t < 2 ^ 52 }
-    ensures fact_1 { result.q ≡ t * 2 ^ result.j }
-    ensures fact_2 { 2 ^ 52 ≤ result.q }
-    ensures fact_3 { result.q < 2 ^ 53 }
-    ensures fact_4 { result.j ≤ 53 }
+    requires above_zero { 0 < t }
+    requires subnormal { t < 2 ^ 52 }
+    ensures shifted { result.q ≡ t * 2 ^ result.j }
+    ensures least { 2 ^ 52 ≤ result.q }
+    ensures most { result.q < 2 ^ 53 }
+    ensures few_turns { result.j ≤ 53 }
 {
     let mut q = t;
     let mut j: u64 = 0;
@@ -50,8 +50,8 @@ fn lift(t: u64) -> LiftResult
 
 // q / 2 ^ 52, by its bit pattern.
 fn significand(q: u64) -> f64
-    requires fact_1 { 2 ^ 52 ≤ q }
-    requires fact_2 { q < 2 ^ 53 }
+    requires least { 2 ^ 52 ≤ q }
+    requires most { q < 2 ^ 53 }
     ensures { result ≡ odd 53 false q 1022 1074 }
 {
     f64::from_bits(1022 * LEADING + q)
@@ -59,8 +59,8 @@ fn significand(q: u64) -> f64
 
 // a - b.
 fn difference(a: u64, b: u64) -> i64
-    requires fact_1 { a < 2500 }
-    requires fact_2 { b < 2500 }
+    requires small_a { a < 2500 }
+    requires small_b { b < 2500 }
     ensures { result ≡ minus a b }
 {
     (a as i64) - (b as i64)
@@ -69,8 +69,8 @@ fn difference(a: u64, b: u64) -> i64
 // x = m * 2 ^ e with 1 <= m < 2, for a finite x above 0.
 fn split(x: f64) -> Parts
     requires { T (positive x) }
-    ensures fact_1 { result ≡ parts_of x }
-    ensures fact_2 { mag result.e < 5000 }
+    ensures parts { result ≡ parts_of x }
+    ensures small { mag result.e < 5000 }
 {
     let w: u64 = f64::to_bits(x);
     let b = w / LEADING;

@@ -22,13 +22,13 @@ pub overflow_sub-n : goal.overflow_sub-n
 overflow_sub-n c = let h = at_most c in omega arith
 
 pub biased-requires : goal.biased-requires
-biased-requires c = let h = at_most c in record { fact_1 = omega arith; fact_2 = omega arith }
+biased-requires c = let h = at_most c in record { above_zero = omega arith; below_top = omega arith }
 
 pub overflow_add-n : goal.overflow_add-n
 overflow_add-n c = let h = at-most-2 c in record { fits = omega arith }
 
 pub biased-requires-else-k-lt0 : goal.biased-requires-else-k-lt0
-biased-requires-else-k-lt0 c = let h = at-most-2 c in record { fact_1 = omega arith; fact_2 = omega arith }
+biased-requires-else-k-lt0 c = let h = at-most-2 c in record { above_zero = omega arith; below_top = omega arith }
 
 pub returns-then-k-lt0 : goal.returns-then-k-lt0
 returns-then-k-lt0 c = let k = c.args.k in
