@@ -10,7 +10,7 @@ ghost use Rattle.design_bandpass.specs.View.{pair_view};
 use sections::Section;
 
 // Two sections.
-#[derive(Drop)]
+#[derive(Clone, Copy)]
 pub struct SectionPair {
     pub bq1: Section,
     pub bq2: Section,

@@ -8,7 +8,7 @@ ghost use Rattle.design_poles.specs.View.{denominator_view};
 use sections::{FirstOrder, Section};
 
 // The denominator of a section that is no band pass: a0, by which the others are divided, and a1 and a2 after that.
-#[derive(Drop)]
+#[derive(Clone, Copy)]
 pub struct Denominator {
     pub a0: f64,
     pub a1: f64,

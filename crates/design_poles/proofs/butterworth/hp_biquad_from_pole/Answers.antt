@@ -5,16 +5,10 @@ use Rattle.scalar.specs.Operators.{◌⊘◌}
 use Rattle.scalar.specs.Constants.{one, two}
 use Rattle.cascade_theory.specs.Section.{new_section}
 use Rattle.design_poles.specs.Butterworth.{DenominatorRecord, hp_biquad}
-use Rattle.design_poles.specs.Butterworth.{hp_biquad}
-use borrow.Author.Rules.{rules}
-use Rattle.design_poles.proofs.butterworth.hp_biquad_from_pole.Statement.{statement}
-use Rattle.design_poles.proofs.butterworth.hp_biquad_from_pole.Tie as tie
+use Rattle.design_poles.proofs.butterworth.hp_biquad_from_pole.Goals as goal
 
-returns : tie.Need-returns
+pub returns : goal.returns
 unfolding hp_biquad
 returns c = c.new.ensures
     ∙ ap (λ (d : DenominatorRecord). new_section (one ⊘ d.a0) (neg two ⊘ d.a0) (one ⊘ d.a0) d.a1 d.a2)
-    c.before.before.before.before.denominator-of.ensures
-
-pub hp-biquad-from-pole-spec : {M : Type 1} → statement M
-hp-biquad-from-pole-spec = tie.close (tie.spec (λ c κs. search rules) (λ c κs. search rules) returns)
+    c.denominator_of-d.ensures

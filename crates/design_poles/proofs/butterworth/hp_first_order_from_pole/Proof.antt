@@ -1,8 +1,0 @@
--- `design_poles::butterworth::hp_first_order_from_pole` meets its contract.
-use Rattle.design_poles.specs.Butterworth.{hp_first}
-use borrow.Author.Rules.{rules}
-use Rattle.design_poles.proofs.butterworth.hp_first_order_from_pole.Statement.{statement}
-use Rattle.design_poles.proofs.butterworth.hp_first_order_from_pole.Tie as tie
-
-pub hp-first-order-from-pole-spec : {M : Type 1} → statement M
-hp-first-order-from-pole-spec = tie.close (tie.spec (λ c κs. search rules) (λ c. unfold hp_first in c.new.ensures))
