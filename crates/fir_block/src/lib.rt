@@ -16,7 +16,7 @@ ghost use Rattle.fir_theory.specs.Blocks.{back_from, finite_run, age_after, clou
 use limits::MAX_TAPS;
 
 // What a block returns: 0 or the refusal number, how many answers were Clouded, and the held count after it.
-#[derive(Drop)]
+#[derive(Clone, Copy)]
 pub struct BlockResult {
     pub refusal: u8,
     pub clouded: usize,
@@ -24,7 +24,7 @@ pub struct BlockResult {
 }
 
 // How many answers were Clouded, and the held count after them.
-#[derive(Drop)]
+#[derive(Clone, Copy)]
 struct PassResult {
     clouded: usize,
     held: usize,
