@@ -11,7 +11,7 @@ ghost use Rattle.fir.specs.View.{taps_view, updated_view, reset_view, block_view
 
 use runs::Answer;
 
-#[derive(Drop)]
+#[derive(Clone, Copy)]
 pub struct TapRecord {
     pub taps: [f64; TapRecord::MAX_TAPS],
     pub samples: [f64; TapRecord::MAX_TAPS],
@@ -23,21 +23,21 @@ pub struct TapRecord {
 }
 
 // What `update` returns.
-#[derive(Drop)]
+#[derive(Clone, Copy)]
 pub struct UpdateResult {
     pub filter: TapRecord,
     pub answer: Answer,
 }
 
 // What `reset` returns: 0 or the refusal number, and the record.
-#[derive(Drop)]
+#[derive(Clone, Copy)]
 pub struct ResetResult {
     pub filter: TapRecord,
     pub refusal: u8,
 }
 
 // What `block` returns: 0 or the refusal number, how many answers were Clouded, and the record.
-#[derive(Drop)]
+#[derive(Clone, Copy)]
 pub struct BlockResult {
     pub filter: TapRecord,
     pub refusal: u8,
@@ -45,7 +45,7 @@ pub struct BlockResult {
 }
 
 // What ready-made taps return, and a design: 0 or the refusal number, and the record.
-#[derive(Drop)]
+#[derive(Clone, Copy)]
 pub struct FirDesignResult {
     pub filter: TapRecord,
     pub refusal: u8,
