@@ -1,11 +1,7 @@
 -- `claims_numbers::arithmetic_meets_ieee_754` meets its contract.
 use Rattle.ieee.proofs.Arithmetic.{add-correct, sub-correct, mul-correct, div-correct}
 use Rattle.ieee.proofs.Model.{sqrt_of-correct}
-use Rattle.claims_numbers.proofs.arithmetic_meets_ieee_754.Statement.{statement}
-use Rattle.claims_numbers.proofs.arithmetic_meets_ieee_754.Tie as tie
+use Rattle.claims_numbers.proofs.arithmetic_meets_ieee_754.Goals as goal
 
-returns : tie.Need-returns
+pub returns : goal.returns
 returns c = record { sums = add-correct; differences = sub-correct; products = mul-correct; quotients = div-correct; roots = sqrt_of-correct }
-
-pub arithmetic-meets-ieee-754-spec : {M : Type 1} → statement M
-arithmetic-meets-ieee-754-spec = tie.close (tie.spec returns)
