@@ -1,5 +1,6 @@
 // Reading the list. Its first line is the number of vectors, and each other line is a vector: the function's number, the
 // input's bits and the answer's. Each of these is 16 hexadecimal digits.
+use std::io::Read;
 use text_numbers::{BitsToken, bits_token};
 
 // How many functions there are: `exports` numbers them from 0 on.
@@ -9,7 +10,7 @@ pub(crate) const FUNCTIONS: u64 = 12;
 const WIDTH: usize = 17;
 
 // A vector, and whether the line was one.
-#[derive(Drop)]
+#[derive(Clone, Copy)]
 pub(crate) struct Vector {
     pub function: u64,
     pub input: u64,
@@ -25,9 +26,9 @@ const NONE: Vector = Vector {
 };
 
 // Reads 16 digits and the byte behind them, which is to be the one given.
-pub(crate) fn read_bits(fd: i32, behind: u8) -> BitsToken {
+pub(crate) fn read_bits(list: &mut impl Read, behind: u8) -> BitsToken {
     let mut text = [0u8; WIDTH];
-    if io::read_full(fd, &mut text) != WIDTH {
+    if list.read_exact(&mut text).is_err() {
         return BitsToken::NotBits;
     }
     if text[16] != behind {
@@ -37,14 +38,14 @@ pub(crate) fn read_bits(fd: i32, behind: u8) -> BitsToken {
 }
 
 // Reads the next vector.
-pub(crate) fn read_vector(fd: i32) -> Vector {
-    let BitsToken::Bits(function) = read_bits(fd, b' ') else {
+pub(crate) fn read_vector(list: &mut impl Read) -> Vector {
+    let BitsToken::Bits(function) = read_bits(list, b' ') else {
         return NONE;
     };
-    let BitsToken::Bits(input) = read_bits(fd, b' ') else {
+    let BitsToken::Bits(input) = read_bits(list, b' ') else {
         return NONE;
     };
-    let BitsToken::Bits(answer) = read_bits(fd, b'\n') else {
+    let BitsToken::Bits(answer) = read_bits(list, b'\n') else {
         return NONE;
     };
     Vector {
