@@ -13,7 +13,7 @@ const CUTOFF_RATIO: f64 = 2.0775; // 40009EB851EB851F
 const SQRT_2: f64 = 1.4142135623730951; // 3FF6A09E667F3BCD
 
 // The standard's names: a0 to a2 weigh the samples, b1 and b2 the earlier outputs, and all five products are added.
-#[derive(Drop)]
+#[derive(Clone, Copy)]
 struct Coefficients {
     a0: f64,
     a1: f64,
@@ -23,7 +23,7 @@ struct Coefficients {
 }
 
 // The two samples before this one and the outputs to them, newest first.
-#[derive(Drop)]
+#[derive(Clone, Copy)]
 struct History {
     x1: f64,
     x2: f64,
