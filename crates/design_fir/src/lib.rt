@@ -15,7 +15,7 @@ use fir::{FirDesignResult, TapRecord};
 use scalar::PI;
 
 // The windows that a design may ask for.
-#[derive(Drop)]
+#[derive(Clone, Copy)]
 pub enum WindowType {
     Rectangular,
     Hamming,
@@ -62,9 +62,9 @@ fn sinc(cutoff: f64, n: f64) -> f64
 
 // Tap i, before all are divided by their sum.
 fn tap(window: WindowType, taps: usize, cutoff: f64, i: usize) -> f64
-    requires fact_1 { 0 < taps }
-    requires fact_2 { taps ≤ max_taps }
-    requires fact_3 { i < max_taps }
+    requires some { 0 < taps }
+    requires few { taps ≤ max_taps }
+    requires place { i < max_taps }
     ensures { result ≡ tap_of window taps cutoff i }
 {
     let i_f = i as f64;
@@ -76,8 +76,8 @@ fn tap(window: WindowType, taps: usize, cutoff: f64, i: usize) -> f64
 
 // All of them in front, +0 behind.
 fn windowed(window: WindowType, taps: usize, cutoff: f64) -> [f64; TapRecord::MAX_TAPS]
-    requires fact_1 { 0 < taps }
-    requires fact_2 { taps ≤ max_taps }
+    requires some { 0 < taps }
+    requires few { taps ≤ max_taps }
     ensures { result ≡ up_to (tap_of window taps cutoff) taps ++ replicate (max_taps - taps) plus_zero }
 {
     let mut coeffs = [0.0; TapRecord::MAX_TAPS];
