@@ -23,9 +23,9 @@ use sections::{FirstOrder, Section};
 
 // The angle of pole pair m: PI × ((2(m + 1) + N − 1)/(2N)).
 fn angle(order: usize, m: usize) -> f64
-    requires fact_1 { 0 < order }
-    requires fact_2 { order ≤ max_order }
-    requires fact_3 { m < max_sections }
+    requires above_zero { 0 < order }
+    requires within_limit { order ≤ max_order }
+    requires is_pair { m < max_sections }
     ensures { result ≡ angle_of order m }
 {
     PI * (((2 * (m + 1) + order - 1) as f64) / ((2 * order) as f64))
@@ -40,9 +40,9 @@ pub(crate) fn warp(cutoff: f64, sample_rate: f64) -> f64
 
 // The low-pass section of pole pair m.
 pub(crate) fn lp_section(order: usize, m: usize, k: f64) -> Section
-    requires fact_1 { 0 < order }
-    requires fact_2 { order ≤ max_order }
-    requires fact_3 { m < max_sections }
+    requires above_zero { 0 < order }
+    requires within_limit { order ≤ max_order }
+    requires is_pair { m < max_sections }
     ensures { section_view result ≡ lp_pair order m k }
 {
     let a = angle(order, m);
@@ -53,9 +53,9 @@ pub(crate) fn lp_section(order: usize, m: usize, k: f64) -> Section
 
 // The high-pass section of pole pair m.
 pub(crate) fn hp_section(order: usize, m: usize, k: f64) -> Section
-    requires fact_1 { 0 < order }
-    requires fact_2 { order ≤ max_order }
-    requires fact_3 { m < max_sections }
+    requires above_zero { 0 < order }
+    requires within_limit { order ≤ max_order }
+    requires is_pair { m < max_sections }
     ensures { section_view result ≡ hp_pair order m k }
 {
     let a = angle(order, m);
@@ -90,9 +90,9 @@ pub fn design_butterworth_hp_raw(order: usize, cutoff: f64, sample_rate: f64) ->
 
 // The two sections of pole pair m.
 fn bp_pair(order: usize, m: usize, bw: f64, omega0_sq: f64) -> SectionPair
-    requires fact_1 { 0 < order }
-    requires fact_2 { order ≤ max_order }
-    requires fact_3 { m < max_sections }
+    requires above_zero { 0 < order }
+    requires within_limit { order ≤ max_order }
+    requires is_pair { m < max_sections }
     ensures { pair_view result ≡ bp_pair_of order bw omega0_sq m }
 {
     let a = angle(order, m);
@@ -103,8 +103,8 @@ fn bp_pair(order: usize, m: usize, bw: f64, omega0_sq: f64) -> SectionPair
 
 // The sections of all pole pairs, two each, and blank ones behind them.
 fn bp_sections_from_pairs(order: usize, bw: f64, omega0_sq: f64) -> [Section; MAX_SECTIONS]
-    requires fact_1 { 0 < order }
-    requires fact_2 { order ≤ max_band_order }
+    requires above_zero { 0 < order }
+    requires within_limit { order ≤ max_band_order }
     ensures { map section_view result ≡ padded max_sections (bp_up_to order bw omega0_sq (order / 2)) }
 {
     let mut sections = [Section::blank(); MAX_SECTIONS];
@@ -122,8 +122,8 @@ fn bp_sections_from_pairs(order: usize, bw: f64, omega0_sq: f64) -> [Section; MA
 
 // Those, and that of the real pole, which an odd order has.
 fn bp_sections(order: usize, bw: f64, omega0_sq: f64) -> [Section; MAX_SECTIONS]
-    requires fact_1 { 0 < order }
-    requires fact_2 { order ≤ max_band_order }
+    requires above_zero { 0 < order }
+    requires within_limit { order ≤ max_band_order }
     ensures { map section_view result ≡ padded max_sections (bp_sections order bw omega0_sq) }
 {
     let mut sections = bp_sections_from_pairs(order, bw, omega0_sq);
@@ -135,8 +135,8 @@ fn bp_sections(order: usize, bw: f64, omega0_sq: f64) -> [Section; MAX_SECTIONS]
 }
 
 fn bp_cascade(order: usize, omega_l: f64, omega_h: f64) -> Cascade
-    requires fact_1 { 0 < order }
-    requires fact_2 { order ≤ max_band_order }
+    requires above_zero { 0 < order }
+    requires within_limit { order ≤ max_band_order }
     ensures { cascade_view result ≡ bp_cascade order omega_l omega_h }
 {
     let sections = bp_sections(order, omega_h - omega_l, omega_l * omega_h);

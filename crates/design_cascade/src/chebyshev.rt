@@ -16,7 +16,7 @@ use scalar::PI;
 use sections::Section;
 
 // A pole pair of type I, and the cosine of its angle.
-#[derive(Drop)]
+#[derive(Clone, Copy)]
 struct PolePair {
     sigma: f64,
     omega_im: f64,
@@ -25,16 +25,16 @@ struct PolePair {
 
 // The angle of pole pair m: (PI × (2m + 1))/(2 × N).
 fn theta(order: usize, m: usize) -> f64
-    requires fact_1 { order ≤ max_order }
-    requires fact_2 { m < max_sections }
+    requires within_limit { order ≤ max_order }
+    requires is_pair { m < max_sections }
     ensures { result ≡ theta_of order m }
 {
     PI * ((2 * m + 1) as f64) / (2.0 * (order as f64))
 }
 
 fn pole_pair(order: usize, m: usize, sinh_a: f64, cosh_a: f64) -> PolePair
-    requires fact_1 { order ≤ max_order }
-    requires fact_2 { m < max_sections }
+    requires within_limit { order ≤ max_order }
+    requires is_pair { m < max_sections }
     ensures { pole_pair_view result ≡ pole_of order m sinh_a cosh_a }
 {
     let t = theta(order, m);
@@ -49,8 +49,8 @@ fn pole_pair(order: usize, m: usize, sinh_a: f64, cosh_a: f64) -> PolePair
 
 // The type I section of pole pair m.
 pub(crate) fn cheb1_section(order: usize, m: usize, sinh_a: f64, cosh_a: f64, k: f64) -> Section
-    requires fact_1 { order ≤ max_order }
-    requires fact_2 { m < max_sections }
+    requires within_limit { order ≤ max_order }
+    requires is_pair { m < max_sections }
     ensures { section_view result ≡ cheb1_pair order m sinh_a cosh_a k }
 {
     let p = pole_pair(order, m, sinh_a, cosh_a);
@@ -59,8 +59,8 @@ pub(crate) fn cheb1_section(order: usize, m: usize, sinh_a: f64, cosh_a: f64, k:
 
 // The type II section of pole pair m: the type I pole inverted, and the zeros ±j/|cos θ|.
 pub(crate) fn cheb2_section(order: usize, m: usize, sinh_a: f64, cosh_a: f64, k: f64) -> Section
-    requires fact_1 { order ≤ max_order }
-    requires fact_2 { m < max_sections }
+    requires within_limit { order ≤ max_order }
+    requires is_pair { m < max_sections }
     ensures { section_view result ≡ cheb2_pair order m sinh_a cosh_a k }
 {
     let p = pole_pair(order, m, sinh_a, cosh_a);

@@ -15,7 +15,7 @@ use limits::MAX_SECTIONS;
 use sections::{FirstOrder, Section};
 
 // The kinds of prototype, with what fixes their poles: k, and sinh a and cosh a of 001.
-#[derive(Drop)]
+#[derive(Clone, Copy)]
 pub enum Prototype {
     ButterworthLow { k: f64 },
     ButterworthHigh { k: f64 },
@@ -25,9 +25,9 @@ pub enum Prototype {
 
 // The section of pole pair m.
 fn section_from_pair(prototype: Prototype, order: usize, m: usize) -> Section
-    requires fact_1 { 0 < order }
-    requires fact_2 { order ≤ max_order }
-    requires fact_3 { m < max_sections }
+    requires above_zero { 0 < order }
+    requires within_limit { order ≤ max_order }
+    requires is_pair { m < max_sections }
     ensures { section_view result ≡ pair_of prototype order m }
 {
     match prototype {
@@ -60,8 +60,8 @@ fn part_from_real_pole(prototype: Prototype) -> FirstOrder
 
 // The sections of all pole pairs, from pair 0 on, and blank ones behind them.
 fn sections_from_pairs(prototype: Prototype, order: usize) -> [Section; MAX_SECTIONS]
-    requires fact_1 { 0 < order }
-    requires fact_2 { order ≤ max_order }
+    requires above_zero { 0 < order }
+    requires within_limit { order ≤ max_order }
     ensures { map section_view result ≡ padded max_sections (up_to (pair_of prototype order) (order / 2)) }
 {
     let mut sections = [Section::blank(); MAX_SECTIONS];
@@ -85,8 +85,8 @@ fn first_from_pole(prototype: Prototype, order: usize) -> FirstOrder
 
 // The accepted design of this prototype.
 pub(crate) fn design_from_prototype(prototype: Prototype, order: usize) -> CascadeDesignResult
-    requires fact_1 { 0 < order }
-    requires fact_2 { order ≤ max_order }
+    requires above_zero { 0 < order }
+    requires within_limit { order ≤ max_order }
     ensures { design_view result ≡ accepted (prototype_cascade prototype order) }
 {
     let sections = sections_from_pairs(prototype, order);

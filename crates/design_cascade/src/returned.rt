@@ -6,7 +6,7 @@ ghost use Rattle.design_cascade.specs.View.{design_view};
 use cascade::Cascade;
 
 // A design: 0 and the cascade, or the refusal number and the blank cascade.
-#[derive(Drop)]
+#[derive(Clone, Copy)]
 pub struct CascadeDesignResult {
     pub refusal: u8,
     pub cascade: Cascade,
