@@ -30,7 +30,7 @@ pub struct Cascade {
 }
 
 // What `update` returns.
-#[derive(Drop)]
+#[derive(Clone, Copy)]
 pub struct UpdateResult {
     pub answer: Answer,
     pub cascade: Cascade,

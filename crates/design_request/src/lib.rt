@@ -17,7 +17,7 @@ use design_fir::{WindowType, design_fir_lp_raw};
 use fir::{FirDesignResult, TapRecord};
 
 // What may be asked for. A FIR's cutoff is a share of the rate.
-#[derive(Drop)]
+#[derive(Clone, Copy)]
 pub enum DesignRequest {
     LowPass {
         order: usize,
@@ -55,7 +55,7 @@ pub enum DesignRequest {
 }
 
 // A design of either kind: 0 or the refusal number, and both records; the one not asked for is blank.
-#[derive(Drop)]
+#[derive(Clone, Copy)]
 pub struct DesignResult {
     pub refusal: u8,
     pub cascade: Cascade,
