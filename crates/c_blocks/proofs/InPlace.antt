@@ -126,7 +126,7 @@ module _ (K : Kind) (B : ReadBack K) where
           fit = ap₂ K.fit en ec ∙ B.fit-back s g;
           good = ap F.check back ∙ h;
           held = en ∙ ap K.numbers (sym back);
-          held-counts = ec ∙ ap K.counts (sym back);
+          held_counts = ec ∙ ap K.counts (sym back);
           single = ap (λ (k : CallRecord). length k.clouded) z;
         },
       )
@@ -180,7 +180,7 @@ module _ (K : Kind) (B : ReadBack K) where
         let q = p.start in
         let done = place-done F B.keeps (K.read numbers₀ counts₀) old (omega (arith, p.place.running.same)) q.good p.place in
         block-accepted K numbers₀ counts₀ old old tally₀ q.single (lend-block K numbers₀ counts₀ q.fit refl old old done) refl p.ready.held
-        p.ready.held-counts et
+        p.ready.held_counts et
 
   -- ---- the empty block before them
   module _ (numbers : List Float) (counts : List ℕ) (old : List Float) (tally : List ℕ) {r : ℕ} {numbers' buffer : List Float} {counts' tally' : List ℕ}

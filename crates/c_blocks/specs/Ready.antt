@@ -11,5 +11,5 @@ pub record Ready (K : Kind) (numbers : List Float) (counts tally : List ℕ) : T
   pub fit : K.fit numbers counts ≡ true
   pub good : K.filter.check (K.read numbers counts) ≡ true
   pub held : numbers ≡ K.numbers (K.read numbers counts)
-  pub held-counts : counts ≡ K.counts (K.read numbers counts)
+  pub held_counts : counts ≡ K.counts (K.read numbers counts)
   pub single : length tally ≡ 1
