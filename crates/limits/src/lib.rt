@@ -1,7 +1,6 @@
 // 01's limits, each in one place.
 #![tactic(auto)]
 
-
 // How many sections a cascade has room for.
 pub const MAX_SECTIONS: usize = 4;
 
