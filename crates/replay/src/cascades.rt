@@ -57,7 +57,7 @@ fn meets_design(stored: &[u64], refusal: u8, c: Cascade) -> bool {
 }
 
 // What a design asks behind its form: an order, and two or three numbers.
-#[derive(Drop)]
+#[derive(Clone, Copy)]
 struct Wanted {
     order: usize,
     a: f64,

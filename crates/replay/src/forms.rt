@@ -4,14 +4,14 @@ use crate::compare::word;
 use design_request::{DesignRequest, DesignResult};
 
 // The default one is refused by 25 where the coefficients are not all finite; the raw one hands them out as they are.
-#[derive(Drop)]
+#[derive(Clone, Copy)]
 pub(crate) enum Form {
     Default,
     Raw,
 }
 
 // A form, or that the word names none.
-#[derive(Drop)]
+#[derive(Clone, Copy)]
 pub(crate) enum FormName {
     Form(Form),
     Unknown,

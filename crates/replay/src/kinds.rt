@@ -1,5 +1,5 @@
 // The kinds of request by number, how many there were of each, and the report.
-use libc::STDOUT_FILENO;
+use std::io;
 
 // The cascade's: its designs, steps, blocks and resets.
 pub(crate) const LOWPASS: usize = 0;
@@ -77,53 +77,58 @@ pub(crate) fn count(
 }
 
 // Name i of a row of names.
-fn print_nth(names: &[u8], i: usize) {
+fn print_nth(rt: &impl Print, names: &[u8], i: usize) -> io::Result<()> {
     if i < KINDS {
         let from = i * WIDTH;
         let end = from + WIDTH;
         if end <= names.len() {
-            io::write_all(STDOUT_FILENO, &names[from..end]);
+            return rt.write_all(&names[from..end]);
         }
     }
+    Ok(())
 }
 
-fn print_name(kind: usize) {
+fn print_name(rt: &impl Print, kind: usize) -> io::Result<()> {
     if kind < FIR {
         print_nth(
+            rt,
             b"lowpass    highpass   bandpass   chebyshev1 chebyshev2 cstep      cblock     creset     ",
             kind,
-        );
+        )
     } else if kind < SQRT {
         print_nth(
+            rt,
             b"fir        taps       fstep      fblock     freset     j211       rival      ",
             kind - FIR,
-        );
+        )
     } else {
         print_nth(
+            rt,
             b"sqrt       sin        cos        tan        exp        ln         sinh       cosh       pow10      ",
             kind - SQRT,
-        );
+        )
     }
 }
 
 // Of one kind: how many requests, and how many agree.
-fn print_kind(kind: usize, asked: u64, agreed: u64) {
-    print_name(kind);
-    io::print_decimal(STDOUT_FILENO, asked);
-    io::write_all(STDOUT_FILENO, b", ");
-    io::print_decimal(STDOUT_FILENO, agreed);
-    io::write_all(STDOUT_FILENO, b" agree\n");
+fn print_kind(rt: &impl Print, kind: usize, asked: u64, agreed: u64) -> io::Result<()> {
+    print_name(rt, kind)?;
+    println!(rt; "{asked}, {agreed} agree")
 }
 
 // A line of all, and one of each kind.
-pub(crate) fn report(counts: &[u64; COUNTS], agreed: &[u64; COUNTS]) {
-    io::print_decimal(STDOUT_FILENO, counts[KINDS]);
-    io::write_all(STDOUT_FILENO, b" requests, ");
-    io::print_decimal(STDOUT_FILENO, agreed[KINDS]);
-    io::write_all(STDOUT_FILENO, b" agree with the oracle\n");
+pub(crate) fn report(
+    rt: &impl Print,
+    counts: &[u64; COUNTS],
+    agreed: &[u64; COUNTS],
+) -> io::Result<()> {
+    let all = counts[KINDS];
+    let all_agreed = agreed[KINDS];
+    println!(rt; "{all} requests, {all_agreed} agree with the oracle")?;
     let mut i: usize = 0;
     while i < KINDS {
-        print_kind(i, counts[i], agreed[i]);
+        print_kind(rt, i, counts[i], agreed[i])?;
         i += 1;
     }
+    Ok(())
 }

@@ -1,5 +1,6 @@
 // Reading the list. A word is 16 hexadecimal digits, and a space or a line's end behind them.
 use crate::kinds::KINDS;
+use std::io::Read;
 use text_numbers::{BitsToken, bits_token};
 
 // The most words that a request asks, and the most that an answer has.
@@ -9,16 +10,16 @@ pub(crate) const MOST: usize = 512;
 const WIDTH: usize = 17;
 
 // A word, and whether it was one.
-#[derive(Drop)]
+#[derive(Clone, Copy)]
 pub(crate) struct Word {
     pub value: u64,
     pub good: bool,
 }
 
 // Reads the next word. It is not good where the file ends or has something else.
-pub(crate) fn read_word(fd: i32) -> Word {
+pub(crate) fn read_word(list: &mut impl Read) -> Word {
     let mut text = [0u8; WIDTH];
-    if io::read_full(fd, &mut text) != WIDTH {
+    if list.read_exact(&mut text).is_err() {
         return Word {
             value: 0,
             good: false,
@@ -38,11 +39,11 @@ pub(crate) fn read_word(fd: i32) -> Word {
 }
 
 // Reads n words into the first places. Answers whether there is room and all were good.
-fn read_words(fd: i32, n: usize, words: &mut [u64; MOST]) -> bool {
+fn read_words(list: &mut impl Read, n: usize, words: &mut [u64; MOST]) -> bool {
     let mut good = n <= MOST;
     let mut i: usize = 0;
     while i < MOST && i < n {
-        let w = read_word(fd);
+        let w = read_word(list);
         words[i] = w.value;
         good = good & w.good;
         i += 1;
@@ -51,7 +52,7 @@ fn read_words(fd: i32, n: usize, words: &mut [u64; MOST]) -> bool {
 }
 
 // A request's kind, how many words it asks, how many the stored answer has, and whether it could be read.
-#[derive(Drop)]
+#[derive(Clone, Copy)]
 pub(crate) struct Head {
     pub kind: usize,
     pub asked: usize,
@@ -60,15 +61,19 @@ pub(crate) struct Head {
 }
 
 // Reads the next request: its head, the words asked and the stored ones.
-pub(crate) fn read_request(fd: i32, asked: &mut [u64; MOST], stored: &mut [u64; MOST]) -> Head {
-    let kind = read_word(fd);
-    let n = read_word(fd);
-    let m = read_word(fd);
+pub(crate) fn read_request(
+    list: &mut impl Read,
+    asked: &mut [u64; MOST],
+    stored: &mut [u64; MOST],
+) -> Head {
+    let kind = read_word(list);
+    let n = read_word(list);
+    let m = read_word(list);
     let good = kind.good & n.good & m.good & (kind.value < (KINDS as u64));
     let n = n.value as usize;
     let m = m.value as usize;
-    let good = good & read_words(fd, n, asked);
-    let good = good & read_words(fd, m, stored);
+    let good = good & read_words(list, n, asked);
+    let good = good & read_words(list, m, stored);
     Head {
         kind: kind.value as usize,
         asked: n,

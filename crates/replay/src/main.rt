@@ -16,7 +16,8 @@ mod taps;
 use cascade::Cascade;
 use fir::TapRecord;
 use kinds::COUNTS;
-use libc::STDOUT_FILENO;
+use std::io::{BufReader, Read};
+use std::{fs, io};
 
 // Whether a request that is on no filter is answered as stored: a function, a pulse or a channel, by its kind.
 fn on_no_filter(kind: usize, asked: &[u64], stored: &[u64]) -> bool {
@@ -28,8 +29,8 @@ fn on_no_filter(kind: usize, asked: &[u64], stored: &[u64]) -> bool {
 
 // Replays the list, and counts the requests of each kind and those that agreed. Answers whether the list is whole: so many
 // requests as it says, and no more. Each request goes to every group of kinds, of which one takes it.
-fn replay(fd: i32, counts: &mut [u64; COUNTS], agreed: &mut [u64; COUNTS]) -> bool {
-    let requests = list::read_word(fd);
+fn replay(list: &mut impl Read, counts: &mut [u64; COUNTS], agreed: &mut [u64; COUNTS]) -> bool {
+    let requests = list::read_word(list);
     let mut cascade = Cascade::blank();
     let mut filter = TapRecord::blank();
     let mut good = requests.good;
@@ -38,7 +39,7 @@ fn replay(fd: i32, counts: &mut [u64; COUNTS], agreed: &mut [u64; COUNTS]) -> bo
         left -= 1;
         let mut asked = [0u64; list::MOST];
         let mut stored = [0u64; list::MOST];
-        let h = list::read_request(fd, &mut asked, &mut stored);
+        let h = list::read_request(list, &mut asked, &mut stored);
         let asked = list::front(&asked, h.asked);
         let stored = list::front(&stored, h.stored);
         let mut alike = on_no_filter(h.kind, asked, stored);
@@ -47,23 +48,37 @@ fn replay(fd: i32, counts: &mut [u64; COUNTS], agreed: &mut [u64; COUNTS]) -> bo
         kinds::count(counts, agreed, h.kind, alike);
         good = h.good;
     }
-    let more = list::read_word(fd);
+    let more = list::read_word(list);
     good & !more.good
 }
 
-fn main() {
-    let path = b"answers";
-    let fd = os::open_read(path);
-    if fd < 0 {
-        os::fail(path);
-        return;
+// What the system says of an error, without the number that stands behind it.
+fn without_number(text: &str) -> &str {
+    match text.split_once(" (os error ") {
+        Some((words, _)) => words,
+        None => text,
     }
+}
+
+// Says on standard error why a file does not open.
+fn fail(rt: &(impl Eprint + AllocGlobal), path: &str, error: io::Error) -> io::Result<()> {
+    let text = format!(in rt.alloc(); "{error}")?;
+    let words = without_number(text.as_str());
+    eprintln!(rt; "{path}: {words}")
+}
+
+fn main(rt: HostRuntime) -> io::Result<()> {
+    let path = "answers";
+    let file = match fs::open(&rt, path) {
+        Ok(file) => file,
+        Err(error) => return fail(&rt, path, error),
+    };
+    let mut list = BufReader::new(rt.alloc(), file)?;
     let mut counts = [0u64; COUNTS];
     let mut agreed = [0u64; COUNTS];
-    if replay(fd, &mut counts, &mut agreed) {
-        kinds::report(&counts, &agreed);
+    if replay(&mut list, &mut counts, &mut agreed) {
+        kinds::report(&rt, &counts, &agreed)
     } else {
-        io::write_all(STDOUT_FILENO, b"the list is not whole\n");
+        println!(rt; "the list is not whole")
     }
-    libc::close(fd);
 }

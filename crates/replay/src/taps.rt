@@ -31,7 +31,7 @@ fn window(code: u64) -> WindowType {
 }
 
 // What a design asks behind its form: a number of taps, a cutoff and a window.
-#[derive(Drop)]
+#[derive(Clone, Copy)]
 struct Wanted {
     taps: usize,
     cutoff: f64,

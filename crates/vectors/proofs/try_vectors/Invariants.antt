@@ -1,3 +1,5 @@
+-- `vectors::try_vectors` meets its contract. At most as many agree as were run, and no more are run than the count. The measure
+-- is how many are left.
 use Rattle.std.proofs.Common.{◌-◌, ◌≤◌}
 use Rattle.vectors.proofs.try_vectors.Given as goal
 
