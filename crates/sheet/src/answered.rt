@@ -4,7 +4,7 @@ use super::put::{end_line, put_fault};
 use super::records::Records;
 
 // The place after an answer, and the records after it.
-#[derive(Drop)]
+#[derive(Clone, Copy)]
 pub(crate) struct Answered {
     pub(crate) at: usize,
     pub(crate) records: Records,

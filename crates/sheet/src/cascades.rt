@@ -12,7 +12,7 @@ use design_request::{DesignRequest, DesignResult};
 use sections::Section;
 use text_answers::{put_bytes, put_count};
 
-#[derive(Drop)]
+#[derive(Clone, Copy)]
 pub(crate) enum CascadeKind {
     LowPass,
     HighPass,

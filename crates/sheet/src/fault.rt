@@ -1,5 +1,5 @@
 // Why a line is no request.
-#[derive(Drop)]
+#[derive(Clone, Copy)]
 pub(crate) enum Fault {
     None,
     LineTooLong,

@@ -3,7 +3,7 @@ use design_request::{DesignRequest, DesignResult, design, design_raw};
 use fir::{FirDesignResult, TapRecord};
 
 // The default one is refused by 25 where the coefficients are not all finite; the raw one hands them out as they are.
-#[derive(Drop)]
+#[derive(Clone, Copy)]
 pub(crate) enum Form {
     Default,
     Raw,

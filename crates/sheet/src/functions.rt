@@ -4,7 +4,7 @@ use super::parameters::only_float;
 use super::put::put_fault;
 use text_answers::put_float;
 
-#[derive(Drop)]
+#[derive(Clone, Copy)]
 pub(crate) enum Function {
     Sqrt,
     Sin,

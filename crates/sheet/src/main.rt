@@ -23,8 +23,8 @@ mod words;
 use answer::answer_line;
 use answered::{Answered, answer_fault};
 use fault::Fault;
-use libc::{STDERR_FILENO, STDIN_FILENO, STDOUT_FILENO};
 use records::Records;
+use std::io::Read;
 
 // The longest line that is answered, without its end.
 pub(crate) const LONGEST_LINE: usize = 8192;
@@ -35,9 +35,12 @@ const LINE_ROOM: usize = 8194;
 // More bytes of answers than this are written before the next line is answered.
 const HALF_FULL: usize = 32768;
 
+// How many bytes are read at once, and how many bytes of answers there is room for.
+const BUFFER: usize = 65536;
+
 // What goes from line to line: the current records, how many bytes of the unfinished line are held, how many bytes of
 // answers wait to be written, and whether to read on.
-#[derive(Drop)]
+#[derive(Clone, Copy)]
 struct Session {
     records: Records,
     held: usize,
@@ -90,16 +93,16 @@ fn without_cr(line: &[u8], held: usize) -> usize {
 }
 
 // Writes the answers that wait.
-fn write_waiting(output: &[u8], s: Session) -> Session {
+fn write_waiting(rt: &(impl Print + Eprint), output: &[u8], s: Session) -> Session {
     let n = s.waiting;
     let mut s = s;
     s.waiting = 0;
     if n <= output.len() {
-        if io::write_all(STDOUT_FILENO, &output[..n]) {
+        if rt.write_all(&output[..n]).is_ok() {
             return s;
         }
     }
-    io::write_all(STDERR_FILENO, b"sheet: standard output cannot be written\n");
+    let _ = eprintln!(rt; "sheet: standard output cannot be written");
     s.reading = false;
     s
 }
@@ -116,11 +119,17 @@ fn answer_bytes(line: &[u8], n: usize, output: &mut [u8], at: usize, records: Re
 }
 
 // Answers the held line, of n bytes without its end; the next one starts empty.
-fn answer_held(line: &[u8], n: usize, output: &mut [u8], s: Session) -> Session {
+fn answer_held(
+    rt: &(impl Print + Eprint),
+    line: &[u8],
+    n: usize,
+    output: &mut [u8],
+    s: Session,
+) -> Session {
     let mut s = s;
     s.held = 0;
     if s.waiting > HALF_FULL {
-        s = write_waiting(output, s);
+        s = write_waiting(rt, output, s);
     }
     let records = s.records;
     let a = answer_bytes(line, n, output, s.waiting, records);
@@ -131,63 +140,73 @@ fn answer_held(line: &[u8], n: usize, output: &mut [u8], s: Session) -> Session 
 }
 
 // Answers the lines that end in a chunk of input and holds the rest.
-fn answer_chunk(chunk: &[u8], line: &mut [u8], output: &mut [u8], s: Session) -> Session {
+fn answer_chunk(
+    rt: &(impl Print + Eprint),
+    chunk: &[u8],
+    line: &mut [u8],
+    output: &mut [u8],
+    s: Session,
+) -> Session {
     let mut s = s;
     let mut at: usize = 0;
     while at < chunk.len() {
         let end = line_end(chunk, at);
         s.held = hold(line, s.held, &chunk[at..end]);
         if end >= chunk.len() {
-            return write_waiting(output, s);
+            return write_waiting(rt, output, s);
         }
         let n = without_cr(line, s.held);
-        s = answer_held(line, n, output, s);
+        s = answer_held(rt, line, n, output, s);
         at = end + 1;
     }
-    write_waiting(output, s)
+    write_waiting(rt, output, s)
 }
 
 // At the end of the input: the last line, which may lack its LF.
-fn finish(line: &[u8], output: &mut [u8], s: Session) -> Session {
+fn finish(rt: &(impl Print + Eprint), line: &[u8], output: &mut [u8], s: Session) -> Session {
     let n = s.held;
-    let s = answer_held(line, n, output, s);
-    let mut s = write_waiting(output, s);
+    let s = answer_held(rt, line, n, output, s);
+    let mut s = write_waiting(rt, output, s);
     s.reading = false;
     s
 }
 
 // Reads once and answers what came.
-fn read_some(chunk: &mut [u8], line: &mut [u8], output: &mut [u8], s: Session) -> Session {
-    let got = libc::read(STDIN_FILENO, chunk);
-    if got < 0 {
-        io::write_all(STDERR_FILENO, b"sheet: standard input cannot be read\n");
-        return finish(line, output, s);
-    }
-    let n = io::count(got, chunk);
+fn read_some(
+    rt: &(impl Print + Eprint),
+    input: &mut impl Read,
+    chunk: &mut [u8],
+    line: &mut [u8],
+    output: &mut [u8],
+    s: Session,
+) -> Session {
+    let Ok(n) = input.read(chunk) else {
+        let _ = eprintln!(rt; "sheet: standard input cannot be read");
+        return finish(rt, line, output, s);
+    };
     if n == 0 {
-        return finish(line, output, s);
+        return finish(rt, line, output, s);
     }
-    answer_chunk(&chunk[..n], line, output, s)
+    answer_chunk(rt, &chunk[..n], line, output, s)
 }
 
-// A proved loop has to end, and nothing says that the input does. So it counts its turns down, from a number that no run
-// uses up.
-fn main() {
-    let mut chunk = io::large_buffer();
+// A proved loop has to end, and nothing says that the input does. So it counts its turns, up to a number that no run
+// reaches.
+fn main(rt: HostRuntime) {
+    let mut input = rt.stdin();
+    let mut chunk = [0u8; BUFFER];
     let mut line = [0u8; LINE_ROOM];
-    let mut output = io::large_buffer();
+    let mut output = [0u8; BUFFER];
     let mut s = Session {
         records: Records::blank(),
         held: 0,
         waiting: 0,
         reading: true,
     };
-    let mut turns = u64::MAX;
-    while turns > 0 {
+    for _ in 0..u64::MAX {
         if !s.reading {
             return;
         }
-        s = read_some(&mut chunk, &mut line, &mut output, s);
-        turns -= 1;
+        s = read_some(&rt, &mut input, &mut chunk, &mut line, &mut output, s);
     }
 }

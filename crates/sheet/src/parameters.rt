@@ -17,14 +17,14 @@ pub(crate) const MOST: usize = 256;
 // The most bytes that a line writes, two digits each.
 pub(crate) const MOST_BYTES: usize = LONGEST_LINE / 2;
 
-#[derive(Drop)]
+#[derive(Clone, Copy)]
 pub(crate) struct OneFloat {
     pub(crate) fault: Fault,
     pub(crate) x: f64,
 }
 
 // A count, and the place after it.
-#[derive(Drop)]
+#[derive(Clone, Copy)]
 struct OneCount {
     fault: Fault,
     n: usize,
@@ -32,7 +32,7 @@ struct OneCount {
 }
 
 // A count and a float, and the place after them.
-#[derive(Drop)]
+#[derive(Clone, Copy)]
 struct CountAndFloat {
     fault: Fault,
     n: usize,
@@ -41,14 +41,14 @@ struct CountAndFloat {
 }
 
 // The place after floats that were read.
-#[derive(Drop)]
+#[derive(Clone, Copy)]
 pub(crate) struct Floats {
     pub(crate) fault: Fault,
     pub(crate) after: usize,
 }
 
 // What a cascade design takes: its order and up to three floats.
-#[derive(Drop)]
+#[derive(Clone, Copy)]
 pub(crate) struct OrderAndFloats {
     pub(crate) fault: Fault,
     pub(crate) order: usize,
@@ -58,7 +58,7 @@ pub(crate) struct OrderAndFloats {
 }
 
 // What a FIR design takes.
-#[derive(Drop)]
+#[derive(Clone, Copy)]
 pub(crate) struct FirParameters {
     pub(crate) fault: Fault,
     pub(crate) taps: usize,
@@ -67,7 +67,7 @@ pub(crate) struct FirParameters {
 }
 
 // How many samples there are, and the place after them.
-#[derive(Drop)]
+#[derive(Clone, Copy)]
 struct Samples {
     fault: Fault,
     n: usize,
@@ -75,7 +75,7 @@ struct Samples {
 }
 
 // How many samples a block has, and how many places its output.
-#[derive(Drop)]
+#[derive(Clone, Copy)]
 pub(crate) struct Lengths {
     pub(crate) fault: Fault,
     pub(crate) samples: usize,
@@ -83,7 +83,7 @@ pub(crate) struct Lengths {
 }
 
 // What a pulse through a channel class takes, and how many samples it has.
-#[derive(Drop)]
+#[derive(Clone, Copy)]
 pub(crate) struct PulseParameters {
     pub(crate) fault: Fault,
     pub(crate) class: usize,
@@ -92,7 +92,7 @@ pub(crate) struct PulseParameters {
 }
 
 // What reading a channel takes, and how many bytes the block has.
-#[derive(Drop)]
+#[derive(Clone, Copy)]
 pub(crate) struct ChannelParameters {
     pub(crate) fault: Fault,
     pub(crate) channel: usize,
@@ -101,7 +101,7 @@ pub(crate) struct ChannelParameters {
 }
 
 // How many bytes a token writes, and the fault where it writes none.
-#[derive(Drop)]
+#[derive(Clone, Copy)]
 struct Bytes {
     fault: Fault,
     n: usize,

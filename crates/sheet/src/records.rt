@@ -3,13 +3,13 @@ use cascade::Cascade;
 use fir::TapRecord;
 
 // Which of the current records a request is of.
-#[derive(Drop)]
+#[derive(Clone, Copy)]
 pub(crate) enum RecordKind {
     Cascade,
     Filter,
 }
 
-#[derive(Drop)]
+#[derive(Clone, Copy)]
 pub(crate) struct Records {
     pub(crate) cascade: Cascade,
     pub(crate) filter: TapRecord,

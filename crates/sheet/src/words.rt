@@ -8,7 +8,7 @@ use text_answers::{next_token, same_bytes};
 
 // The designs are Cascade and Fir; Taps is ready-made taps; Raw stands before one of these; J211 is a pulse through a channel class,
 // and Rival a channel of the rival's block.
-#[derive(Drop)]
+#[derive(Clone, Copy)]
 pub(crate) enum Request {
     Step(RecordKind),
     Block(RecordKind),
@@ -24,7 +24,7 @@ pub(crate) enum Request {
 }
 
 // A window, or that the word names none.
-#[derive(Drop)]
+#[derive(Clone, Copy)]
 pub(crate) enum WindowName {
     Window(WindowType),
     Unknown,
