@@ -1,6 +1,5 @@
 -- The numbers of an array of the code are values of its format: what owning the array tells.
-use mathlib.Core.Path.{subst}
-use mathlib.Core.List.{List, [], ◌∷◌, map, map-id}
+use mathlib.Core.List.{List, [], ◌∷◌}
 use lib.Ieee.{Float, Format, fits}
 use mir.Val.{Val}
 use denote.Array.{each}
@@ -9,12 +8,7 @@ use denote.Shadow.{shadow}
 use Rattle.lists.specs.Lists.{Each}
 use Rattle.exact.specs.Scaled.{IsValue}
 
-array-values : (f : Format) (xs : List Float) (us : List Val) → shadow (each Float (FloatOf f).own_val xs us) → Each (IsValue f) xs
+pub array-values : (f : Format) (xs : List Float) (us : List Val) → shadow (each Float (FloatOf f).own_val xs us) → Each (IsValue f) xs
 array-values f [] us p = tt
 array-values f (x ∷ xs) [] p = absurd p
 array-values f (x ∷ xs) (u ∷ us) p = (passes (fits f x) p.0.1, array-values f xs us p.1)
-
--- of an array that is a field of a struct
-pub field-values : (f : Format) (xs : List Float) (us : List Val) → shadow (each Float (FloatOf f).own_val (map (λ (v : Float). v) xs) us)
-    → Each (IsValue f) xs
-field-values f xs us p = array-values f xs us (subst (λ (ys : List Float). shadow (each Float (FloatOf f).own_val ys us)) (map-id xs) p)

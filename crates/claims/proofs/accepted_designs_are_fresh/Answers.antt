@@ -6,10 +6,9 @@ use Rattle.fir_theory.proofs.Fresh as fir
 use Rattle.design_cascade.proofs.Fresh.{butterworth-lp-fresh, butterworth-hp-fresh, chebyshev1-fresh, chebyshev2-fresh, bandpass-fresh}
 use Rattle.design_fir.proofs.Fresh.{fir-fresh}
 use Rattle.claims.proofs.Forms.{cascade-fresh, taps-fresh}
-use Rattle.claims.proofs.accepted_designs_are_fresh.Statement.{statement}
-use Rattle.claims.proofs.accepted_designs_are_fresh.Tie as tie
+use Rattle.claims.proofs.accepted_designs_are_fresh.Goals as goal
 
-returns : tie.Need-returns
+pub returns : goal.returns
 returns c = record {
   low_pass = λ n cutoff rate. cascade-fresh _ (butterworth-lp-fresh n cutoff rate);
   high_pass = λ n cutoff rate. cascade-fresh _ (butterworth-hp-fresh n cutoff rate);
@@ -21,6 +20,3 @@ returns c = record {
   cascade_reset = cascade.reset-makes-fresh binary64;
   fir_reset = fir.reset-makes-fresh max_taps binary64;
 }
-
-pub accepted-designs-are-fresh-spec : {M : Type 1} → statement M
-accepted-designs-are-fresh-spec = tie.close (tie.spec returns)

@@ -42,8 +42,7 @@ use Rattle.c_designs.specs.Designs.{design_call, TapsStoredRecord, taps_places, 
 use Rattle.c_calls.proofs.Back.{cascade-back, taps-back}
 use Rattle.claims.specs.Fresh.{CascadeMade, TapsMade, CascadeIsMade, TapsAreMade}
 use Rattle.claims.proofs.Forms.{taps-raw, cascade-fresh, taps-fresh}
-use Rattle.claims.proofs.c_made_filters_are_fresh.Statement.{statement}
-use Rattle.claims.proofs.c_made_filters_are_fresh.Tie as tie
+use Rattle.claims.proofs.c_made_filters_are_fresh.Goals as goal
 
 -- one number for two outcomes
 accepted-bad : no_refusal ≡ bad_call → ⊥
@@ -200,7 +199,7 @@ designed-made n cutoff window =
       by_default = by_code (λ w. taps_by_default max_taps (fir_lp n cutoff w)) window both.by_default;
     }
 
-returns : tie.Need-returns
+pub returns : goal.returns
 unfolding butterworth_lp butterworth_hp chebyshev1_lp chebyshev2_lp butterworth_bp
 returns c = record {
   low_pass = λ n cutoff rate. prototype-made (validate_params cutoff rate n) (ButterworthLow (warped cutoff rate)) n _ refl (butterworth-lp-fresh n cutoff rate);
@@ -214,6 +213,3 @@ returns c = record {
   fir_low_pass = designed-made;
   ready_made = λ coeffs. both-made (from_coeffs max_taps coeffs) coeffs ready_made (ready-is coeffs) (ready-made-fresh max_taps binary64 coeffs);
 }
-
-pub c-made-filters-are-fresh-spec : {M : Type 1} → statement M
-c-made-filters-are-fresh-spec = tie.close (tie.spec returns)

@@ -6,14 +6,10 @@ use borrow.Author.Rules.{rules}
 use Rattle.limits.specs.Limits.{max_taps}
 use Rattle.fir.specs.View.{taps_view}
 use Rattle.fir_theory.proofs.Forgetting.{forgets}
-use Rattle.claims.proofs.fir_forgets.Statement.{statement}
-use Rattle.claims.proofs.fir_forgets.Tie as tie
+use Rattle.claims.proofs.fir_forgets.Goals as goal
 
-returns : tie.Need-returns
+pub returns : goal.returns
 returns c =
     let taps : length c.args.start.taps ≡ max_taps = search rules in
     let samples : length c.args.start.samples ≡ max_taps = search rules in
     record { of = forgets max_taps binary64 (taps_view c.args.start) taps samples }
-
-pub fir-forgets-spec : {M : Type 1} → statement M
-fir-forgets-spec = tie.close (tie.spec returns)

@@ -11,8 +11,7 @@ use Rattle.claims.specs.Recordings.{Written}
 use Rattle.recordings.proofs.Codes.{dropout-is-nan, exact}
 use Rattle.recordings.proofs.Reading.{readable, header}
 use Rattle.recordings.proofs.Format.{read_back, refused-back, decoded, storable, counted, encoded-back}
-use Rattle.claims.proofs.rival_blocks.Statement.{statement}
-use Rattle.claims.proofs.rival_blocks.Tie as tie
+use Rattle.claims.proofs.rival_blocks.Goals as goal
 
 only-written : (block : List ℕ) → Bytes block → (channel places : ℕ) → refusal block channel places ≡ no_refusal → Written block channel places
 only-written block bytes channel places e =
@@ -27,7 +26,5 @@ only-written block bytes channel places e =
       room = p.room;
     }
 
-pub rival-blocks-spec : {M : Type 1} → statement M
-rival-blocks-spec =
-    tie.close
-    (tie.spec (λ c. record { read_back = read_back; refused = refused-back; only_written = only-written; dropouts = dropout-is-nan; exact = exact }))
+pub returns : goal.returns
+returns c = record { read_back = read_back; refused = refused-back; only_written = only-written; dropouts = dropout-is-nan; exact = exact }

@@ -7,8 +7,7 @@ use Rattle.runs.proofs.Default.{refused-stays, finite-stays, not_finite, accepte
 use Rattle.design_fir.proofs.OneTap.{one-tap-refused}
 use Rattle.design_request.proofs.Laws.{cascade-by-default, taps-by-default}
 use Rattle.claims.specs.Default.{Defaults}
-use Rattle.claims.proofs.default_forms.Statement.{statement}
-use Rattle.claims.proofs.default_forms.Tie as tie
+use Rattle.claims.proofs.default_forms.Goals as goal
 
 -- of any kind of result whose refusal tells its number
 defaults : {R : Type 0} (refusal : R → ℕ) (finite_in : R → Bool) (refused_by : ℕ → R) → ((n : ℕ) → refusal (refused_by n) ≡ n) → (r : R)
@@ -20,7 +19,7 @@ defaults refusal finite_in refused_by told r = record {
   accepted = accepted-raw refusal finite_in refused_by r told;
 }
 
-returns : tie.Need-returns
+pub returns : goal.returns
 returns c = record {
   cascades = defaults _ _ _ (λ n. refl);
   taps = defaults _ _ _ (λ n. refl);
@@ -28,6 +27,3 @@ returns c = record {
   tap_requests = taps-by-default;
   one_tap = one-tap-refused;
 }
-
-pub default-forms-spec : {M : Type 1} → statement M
-default-forms-spec = tie.close (tie.spec returns)

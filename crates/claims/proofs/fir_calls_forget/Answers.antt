@@ -13,8 +13,7 @@ use Rattle.fir.specs.declared.TapRecord.{TapRecord}
 use Rattle.fir_theory.specs.Plain.{plain_fir}
 use Rattle.fir_theory.proofs.Forgetting.{forgets}
 use Rattle.claims.specs.Lists.{FirCalls, fir_ended, fir_update_called, fir_block_called, fir_reset_called}
-use Rattle.claims.proofs.fir_calls_forget.Statement.{statement}
-use Rattle.claims.proofs.fir_calls_forget.Tie as tie
+use Rattle.claims.proofs.fir_calls_forget.Goals as goal
 
 shown : {r : TapRecord} {calls : List Call} {outcomes : List Outcome} → FirCalls r calls outcomes → outcomes ≡ run (fir max_taps binary64) (taps_view r) calls
 unfolding run
@@ -23,7 +22,7 @@ shown (fir_update_called r x u calls outcomes e rest) = run_step (fir max_taps b
 shown (fir_block_called r input output output' b calls outcomes e rest) = run-block (fir max_taps binary64) (taps_view r) calls input output e (shown rest)
 shown (fir_reset_called r w calls outcomes e rest) = run-reset (fir max_taps binary64) (taps_view r) calls e (shown rest)
 
-returns : tie.Need-returns
+pub returns : goal.returns
 returns c =
     let taps : length c.args.start.taps ≡ max_taps = search rules in
     let samples : length c.args.start.samples ≡ max_taps = search rules in
@@ -33,6 +32,3 @@ returns c =
       forgets = λ calls outcomes l. forgets-shown (fir max_taps binary64) (plain_fir binary64) taps_of r calls (shown l)
           (forgets max_taps binary64 r taps samples calls);
     }
-
-pub fir-calls-forget-spec : {M : Type 1} → statement M
-fir-calls-forget-spec = tie.close (tie.spec returns)

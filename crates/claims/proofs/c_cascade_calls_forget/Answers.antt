@@ -8,16 +8,12 @@ use Rattle.c_layout.specs.Layout.{cascade_at}
 use Rattle.c_calls.specs.Kinds.{cascade_kind}
 use Rattle.c_calls.proofs.Lists.{c-calls-run}
 use Rattle.c_calls.proofs.Back.{cascade-read-back}
-use Rattle.claims.proofs.c_cascade_calls_forget.Statement.{statement}
-use Rattle.claims.proofs.c_cascade_calls_forget.Tie as tie
+use Rattle.claims.proofs.c_cascade_calls_forget.Goals as goal
 
-returns : tie.Need-returns
+pub returns : goal.returns
 returns c = record {
   shows = λ numbers counts calls outcomes l. c-calls-run cascade_kind cascade-read-back l;
   forgets = λ numbers counts calls outcomes l.
       let s = cascade_at numbers counts in
       forgets-shown (cascade binary64) (plain_cascade binary64) coefficients_of s calls (c-calls-run cascade_kind cascade-read-back l) (forgets binary64 s calls);
 }
-
-pub c-cascade-calls-forget-spec : {M : Type 1} → statement M
-c-cascade-calls-forget-spec = tie.close (tie.spec returns)

@@ -15,8 +15,7 @@ use Rattle.c_calls.specs.Kinds.{taps_at, taps_fit, fir_kind}
 use Rattle.c_calls.specs.Lists.{CCalls}
 use Rattle.c_calls.proofs.Lists.{c-calls-run, c-calls-none}
 use Rattle.c_calls.proofs.Back.{fir-read-back, taps-fit}
-use Rattle.claims.proofs.c_fir_calls_forget.Statement.{statement}
-use Rattle.claims.proofs.c_fir_calls_forget.Tie as tie
+use Rattle.claims.proofs.c_fir_calls_forget.Goals as goal
 
 -- of no call
 none : (r : TapsRecord) → FirForgets max_taps binary64 r [] []
@@ -35,8 +34,5 @@ forgotten taps samples counts calls outcomes l = go (taps_fit taps samples count
         (forgets max_taps binary64 r lengths.0 lengths.1 calls)
     go false h = let p = c-calls-none (fir_kind taps) (fir-read-back taps) h l in rw (p.0, p.1) (none (taps_at taps samples counts))
 
-returns : tie.Need-returns
+pub returns : goal.returns
 returns c = record { shows = λ taps samples counts calls outcomes l. c-calls-run (fir_kind taps) (fir-read-back taps) l; forgets = forgotten }
-
-pub c-fir-calls-forget-spec : {M : Type 1} → statement M
-c-fir-calls-forget-spec = tie.close (tie.spec returns)

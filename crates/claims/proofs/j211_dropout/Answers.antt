@@ -7,8 +7,7 @@ use lib.Ieee.{Float, nan}
 use Rattle.runs.specs.Refusals.{no_refusal}
 use Rattle.j211.specs.J211.{warped_of, coefficients_of, forward, backward, both_ways, refusal, filtered}
 use Rattle.j211.proofs.Dropout.{forward-dropout, forward-length, backward-dropout}
-use Rattle.claims.proofs.j211_dropout.Statement.{statement}
-use Rattle.claims.proofs.j211_dropout.Tie as tie
+use Rattle.claims.proofs.j211_dropout.Goals as goal
 
 both-passes : (class : ℕ) (rate : Float) (xs ys : List Float) → refusal class rate ≡ no_refusal
     → filtered class rate (xs ++ nan ∷ ys) ≡ replicate (length (xs ++ nan ∷ ys)) nan
@@ -18,6 +17,5 @@ both-passes class rate xs ys e =
     let long : length (forward k xs) + suc (length ys) ≡ length (xs ++ nan ∷ ys) = rw (length-append, forward-length) in
     rw e (ap (backward k) (forward-dropout k xs ys) ∙ backward-dropout k (forward k xs) (length ys) ∙ ap (λ (m : ℕ). replicate m nan) long)
 
-pub j211-dropout-spec : {M : Type 1} → statement M
-j211-dropout-spec =
-    tie.close (tie.spec (λ c. record { first_pass = λ class rate. forward-dropout (coefficients_of (warped_of class rate)); both_passes = both-passes }))
+pub returns : goal.returns
+returns c = record { first_pass = λ class rate. forward-dropout (coefficients_of (warped_of class rate)); both_passes = both-passes }
