@@ -3,7 +3,10 @@
 // file and the expected output.
 #![tactic(auto)]
 
-ghost use Rattle.std.specs.Prelude.{◌≤◌, IfOk};
+ghost use Rattle.std.specs.Prelude.{◌≡◌, ◌≤◌, ◌↔◌, IfOk};
+ghost use Rattle.std.specs.Float.{binary64};
+ghost use Rattle.std.specs.Float.Ieee.{of_bits, to_bits};
+ghost use Rattle.exports.specs.Numbered.{numbered};
 
 mod list;
 
@@ -41,6 +44,7 @@ fn print_name(rt: &impl Print, function: u64) -> io::Result<()> {
 // One line of output; answers 1 where the function gives the stored answer, and 0 where it does not.
 fn try_vector(rt: &impl Print, v: Vector) -> io::Result<u64>
     ensures counted { IfOk result (λ n. n ≤ 1) }
+    ensures stored { IfOk result (λ n. n ≡ 1 ↔ to_bits binary64 (numbered v.function (of_bits binary64 v.input)) ≡ v.answer) }
 {
     let input = v.input;
     let y = ieee::to_bits(exports::recorder_elementary(v.function, ieee::from_bits(input)));
