@@ -184,7 +184,8 @@ module _ (ts ss : List Float) (cs : List ℕ) where
       fir-step-accepted k ey et = step-accepted (fir_kind ts) ss cs x answer tally single (e ∙ fir-lent-step x) g k refl (counts-set ss' h) ey et
 
     module _ (input output : List Float) (tally : List ℕ) (single : length tally ≡ 1) {ss' o : List Float} {n d h : ℕ}
-        (e : ◌≡◌ {A = Block TapsRecord} (record { refusal = n; clouded = d; state = with ss' h; output = o }) (lent_block F (fits max_taps) before input output))
+        (e : ◌≡◌ {A = Block TapsRecord} (record { refusal = n; clouded = d; state = with ss' h; output = o })
+        (lent_block F (fits max_taps) before input output))
       where
         pub fir-block-refused : (n ≡ 0 → ⊥) → ◌≡◌ {A = CallRecord} (record { refusal = n; numbers = ss'; counts = cs; answers = o; clouded = tally })
             (block_call (fir_kind ts) ss cs input output tally)

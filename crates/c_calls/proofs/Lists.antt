@@ -213,9 +213,11 @@ module _ (K : Kind) (B : ReadBack K) where
   unfolding block_in_place_call
   verdict (step_called r numbers numbers' counts counts' x answer answer' clouded clouded' e) = step-verdict numbers numbers' counts counts' r x answer answer'
       clouded clouded' e
-  verdict (block_called r numbers numbers' counts counts' input output output' clouded clouded' e) = block-verdict numbers numbers' counts counts' r input output
+  verdict (block_called r numbers numbers' counts counts' input output output' clouded clouded' e) =
+      block-verdict numbers numbers' counts counts' r input output
       output' clouded clouded' e
-  verdict (block_in_place_called r numbers numbers' counts counts' samples samples' clouded clouded' e) = block-verdict numbers numbers' counts counts' r samples
+  verdict (block_in_place_called r numbers numbers' counts counts' samples samples' clouded clouded' e) =
+      block-verdict numbers numbers' counts counts' r samples
       samples samples' clouded clouded' e
   verdict (reset_called r numbers numbers' counts counts' e) = reset-verdict numbers numbers' counts counts' r e
 

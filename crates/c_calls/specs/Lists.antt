@@ -26,7 +26,8 @@ module _ (K : Kind) where
         → record { refusal = r; numbers = numbers'; counts = counts'; answers = output'; clouded = clouded' } ≡ block_call K numbers counts input output clouded
         → CCall r numbers counts numbers' counts' (block input output) (blocked r (count_shown r clouded') output')
     block_in_place_called : (r : ℕ) (numbers numbers' : List Float) (counts counts' : List ℕ) (buffer buffer' : List Float) (clouded clouded' : List ℕ)
-        → record { refusal = r; numbers = numbers'; counts = counts'; answers = buffer'; clouded = clouded' } ≡ block_in_place_call K numbers counts buffer clouded
+        → record { refusal = r; numbers = numbers'; counts = counts'; answers = buffer'; clouded = clouded' }
+        ≡ block_in_place_call K numbers counts buffer clouded
         → CCall r numbers counts numbers' counts' (block buffer buffer) (blocked r (count_shown r clouded') buffer')
     reset_called : (r : ℕ) (numbers numbers' : List Float) (counts counts' : List ℕ)
         → record { refusal = r; numbers = numbers'; counts = counts' } ≡ reset_call K numbers counts

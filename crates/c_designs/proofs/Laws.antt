@@ -23,7 +23,8 @@ pub taps-last : (ts ss : List Float) (cs : List ℕ) → length ts ≡ max_taps 
 unfolding taps_places
 taps-last ts ss cs h k = rw (eq-eqb (length ts) max_taps h, eq-eqb (length ss) max_taps k)
 
-pub taps-lengths : (ts ss : List Float) (cs : List ℕ) → taps_places ts ss cs ≡ true → (length ts ≡ max_taps) × (length ss ≡ max_taps) × (length cs ≡ count_places)
+pub taps-lengths : (ts ss : List Float) (cs : List ℕ) → taps_places ts ss cs ≡ true → (length ts ≡ max_taps) × (length ss ≡ max_taps)
+    × (length cs ≡ count_places)
 unfolding taps_places
 taps-lengths ts ss cs h =
     let p = both (eqb (length ts) max_taps) (eqb (length ss) max_taps && eqb (length cs) count_places) h in

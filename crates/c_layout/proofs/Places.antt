@@ -54,7 +54,8 @@ sections-numbers ss s h = ap (λ (l : List Section). sections_numbers (map secti
 pub sections-written : (l : List Float) (ss : List Section) (s : Section) {l₁ l₂ l₃ l₄ : List Float} → length l ≡ cascade_length → length ss ≡ max_sections
     → l₁ ≡ spliced l 0 (section_numbers (section_view (get_or ss 0 s))) → l₂ ≡ spliced l₁ section_places (section_numbers (section_view (get_or ss 1 s))) → l₃
     ≡ spliced l₂ (2 * section_places) (section_numbers (section_view (get_or ss 2 s)))
-    → l₄ ≡ spliced l₃ (3 * section_places) (section_numbers (section_view (get_or ss 3 s))) → l₄ ≡ sections_numbers (map section_view ss) ++ drop sections_places l
+    → l₄ ≡ spliced l₃ (3 * section_places) (section_numbers (section_view (get_or ss 3 s)))
+    → l₄ ≡ sections_numbers (map section_view ss) ++ drop sections_places l
 unfolding spliced
 sections-written l ss s h k e₁ e₂ e₃ e₄ =
     let a = section_numbers (section_view (get_or ss 0 s)) in

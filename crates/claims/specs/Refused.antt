@@ -7,6 +7,7 @@ use Rattle.design_request.specs.declared.DesignRequest.{DesignRequest}
 
 pub record RefusedByCheck : Type 0 where
   pub raw : (request : DesignRequest) → (design_of request).refusal ≡ check_request request
-  pub by_default : (request : DesignRequest) → (check_request request ≡ no_refusal → ⊥) → (design_by_default (design_of request)).refusal ≡ check_request request
+  pub by_default : (request : DesignRequest) → (check_request request ≡ no_refusal → ⊥) →
+      (design_by_default (design_of request)).refusal ≡ check_request request
   pub or_else : (request : DesignRequest) → check_request request ≡ no_refusal → ((design_by_default (design_of request)).refusal ≡ no_refusal)
       ⊎ ((design_by_default (design_of request)).refusal ≡ non_finite_coefficient)

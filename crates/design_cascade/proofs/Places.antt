@@ -51,7 +51,8 @@ module _ (n : ℕ) (bw w0 : Float) where
   pub band-length : (m : ℕ) → length (bp_up_to n bw w0 m) ≡ 2 * m
   unfolding bp_up_to
   band-length zero = refl
-  band-length (suc m) = length-append (bp_up_to n bw w0 m) ((bp_pair_of n bw w0 m).bq1 ∷ (bp_pair_of n bw w0 m).bq2 ∷ []) ∙ ap (λ (k : ℕ). k + 2) (band-length m)
+  band-length (suc m) = length-append (bp_up_to n bw w0 m) ((bp_pair_of n bw w0 m).bq1 ∷ (bp_pair_of n bw w0 m).bq2 ∷ [])
+      ∙ ap (λ (k : ℕ). k + 2) (band-length m)
       ∙ (omega arith)
 
   pub band-none : blank_section ∷ blank_section ∷ blank_section ∷ blank_section ∷ [] ≡ padded max_sections (bp_up_to n bw w0 0)

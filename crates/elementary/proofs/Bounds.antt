@@ -1,5 +1,7 @@
 -- Bounds on the magnitude of a rounded number, and with them the ranges that sin, cos and exp reduce.
-use Rattle.std.proofs.Common.{◌≡◌, ℕ, zero, suc, ◌+◌, ◌-◌, ◌*◌, ◌/◌, ◌^◌, ◌<◌, ◌≤◌, Bool, true, false, cond, ◌&&◌, ◌||◌, T, eqb, ltb, ℤ, pos, neg_ℤ, sym, refl, ap, ◌∙◌, subst, true≢false, zero-le, le_trans, le_of_eq, le_of_suc-le-suc, le_of_lt, mul-le-mul_right, mul-le-mul, mul-pos, mul-one, mul_right_comm, le_of_mul-le-mul_right, arith, lit<, lit≤, eqb→eq, ltb→lt, pow_pos, ltb-false}
+use Rattle.std.proofs.Common.{◌≡◌, ℕ, zero, suc, ◌+◌, ◌-◌, ◌*◌, ◌/◌, ◌^◌, ◌<◌, ◌≤◌, Bool, true, false, cond, ◌&&◌, ◌||◌, T, eqb, ltb, ℤ, pos, neg_ℤ, sym, refl}
+use Rattle.std.proofs.Common.{ap, ◌∙◌, subst, true≢false, zero-le, le_trans, le_of_eq, le_of_suc-le-suc, le_of_lt, mul-le-mul_right, mul-le-mul, mul-pos}
+use Rattle.std.proofs.Common.{mul-one, mul_right_comm, le_of_mul-le-mul_right, arith, lit<, lit≤, eqb→eq, ltb→lt, pow_pos, ltb-false}
 use mathlib.Core.Path.{subst⁻¹}
 use native.Mathlib.Nat.{mul-mul-mul_comm}
 use lib.Ieee as Ieee

@@ -1,5 +1,6 @@
 -- Powers of two by their bit patterns.
-use Rattle.std.proofs.Common.{◌≡◌, ℕ, zero, suc, ◌+◌, ◌-◌, ◌*◌, ◌/◌, ◌^◌, ◌<◌, ◌≤◌, false, ℤ, pos, negsuc, sym, refl, ap, ◌∙◌, subst, lt_irrefl, add_comm, mul-div_cancel, arith, lit<}
+use Rattle.std.proofs.Common.{◌≡◌, ℕ, zero, suc, ◌+◌, ◌-◌, ◌*◌, ◌/◌, ◌^◌, ◌<◌, ◌≤◌, false, ℤ, pos, negsuc, sym, refl, ap, ◌∙◌, subst, lt_irrefl, add_comm}
+use Rattle.std.proofs.Common.{mul-div_cancel, arith, lit<}
 use native.Mathlib.Nat.{mul-mod_left}
 use lib.Ieee.{fin, binary64, minus, odd, of_bits}
 use lib.Signed.{mag}

@@ -1,6 +1,10 @@
 -- The nearest whole number from what `nearest_magnitude` does: the whole part, the rest, which is exact, and its comparisons with 1/2. And what the nearest
 -- whole number is, said without a way to compute it.
-use Rattle.std.proofs.Common.{◌≡◌, ℕ, suc, ◌+◌, ◌-◌, ◌*◌, ◌/◌, ◌%◌, ◌^◌, ◌<◌, ◌≤◌, Bool, true, false, cond, not, ◌&&◌, T, eqb, ltb, ℤ, pos, negsuc, neg_ℤ, sym, refl, ap, ◌∙◌, subst, inl, inr, true≢false, suc-le-suc, le_trans, le_of_eq, lt_of_lt_of_le, lt_of_le_of_lt, le_of_lt, lt_irrefl, mul-le-mul_right, mul_assoc, mul_comm, mul-lt-mul_of_pos_right, mul-pos, one-mul, lt_of_not-le, div-add-mod', zero-mul, mul-one, mul_right_comm, div-mul-le_self, le_of_mul-le-mul_right, add-one, arith, lit≤, eqb→eq, ltb→lt, lt→ltb, nltb→le, pow_pos, pow_mono, pow-add, shl_lt, ltb-false, ltb-true, le-ltb, lt-ltb, eq-eqb, ne_eqb, le-leb}
+use Rattle.std.proofs.Common.{◌≡◌, ℕ, suc, ◌+◌, ◌-◌, ◌*◌, ◌/◌, ◌%◌, ◌^◌, ◌<◌, ◌≤◌, Bool, true, false, cond, not, ◌&&◌, T, eqb, ltb, ℤ, pos, negsuc, neg_ℤ, sym}
+use Rattle.std.proofs.Common.{refl, ap, ◌∙◌, subst, inl, inr, true≢false, suc-le-suc, le_trans, le_of_eq, lt_of_lt_of_le, lt_of_le_of_lt, le_of_lt, lt_irrefl}
+use Rattle.std.proofs.Common.{mul-le-mul_right, mul_assoc, mul_comm, mul-lt-mul_of_pos_right, mul-pos, one-mul, lt_of_not-le, div-add-mod', zero-mul, mul-one}
+use Rattle.std.proofs.Common.{mul_right_comm, div-mul-le_self, le_of_mul-le-mul_right, add-one, arith, lit≤, eqb→eq, ltb→lt, lt→ltb, nltb→le, pow_pos, pow_mono}
+use Rattle.std.proofs.Common.{pow-add, shl_lt, ltb-false, ltb-true, le-ltb, lt-ltb, eq-eqb, ne_eqb, le-leb}
 use Prim.Native.Nat.{compare, Ordering}
 use native.Mathlib.Nat.{mul-sub, eq_of_mul-eq-mul_right}
 use native.Mathlib.Nat.{mod-le, mod-one, div-le_of_le-mul}

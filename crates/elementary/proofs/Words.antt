@@ -1,5 +1,6 @@
 -- The machine's signed numbers at 64 bits.
-use Rattle.std.proofs.Common.{◌≡◌, ℕ, zero, suc, ◌^◌, ◌≤◌, true, false, ℤ, pos, negsuc, ◌-ℤ◌, neg_ℤ, refl, ap, ◌∙◌, subst, true≢false, zero-le, lt_of_lt_of_le, lt_of_le_of_lt, not-le_of_lt, lit<, lit≤, pow_pos, w64, SFits, to_z, of_z, ltb-true}
+use Rattle.std.proofs.Common.{◌≡◌, ℕ, zero, suc, ◌^◌, ◌≤◌, true, false, ℤ, pos, negsuc, ◌-ℤ◌, neg_ℤ, refl, ap, ◌∙◌, subst, true≢false, zero-le, lt_of_lt_of_le}
+use Rattle.std.proofs.Common.{lt_of_le_of_lt, not-le_of_lt, lit<, lit≤, pow_pos, w64, SFits, to_z, of_z, ltb-true}
 use lib.IntN.{+ℤ_idl}
 use lib.Signed.{mag, lt_z}
 use mir.ValLaws.{to_z_pos, to_z-of_z}

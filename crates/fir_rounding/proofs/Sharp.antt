@@ -60,7 +60,8 @@ held-samples = refl
 -- ---- what is said of each tap and of each sample
 module _ (P : Float → Type 0) where
   each-tap : P tap_a → P tap_b → Each P (taps_of far_off)
-  each-tap a b = subst (Each P) (sym own-taps) (each_append P (replicate 32 tap_a) (replicate 32 tap_b) (each-replicate P 32 tap_a a) (each-replicate P 32 tap_b b))
+  each-tap a b = subst (Each P) (sym own-taps) (each_append P (replicate 32 tap_a) (replicate 32 tap_b) (each-replicate P 32 tap_a a)
+      (each-replicate P 32 tap_b b))
 
   each-sample : P sample → Each P (held_of (next far_off sample))
   each-sample a = subst (Each P) (sym held-samples) (each-replicate P 64 sample a)

@@ -32,7 +32,8 @@ module _ (capacity : ℕ) (f : Format) where
   ready-made-fresh ts = go (order_refused (length ts) capacity) refl
     where
       made : Bool → FirDesignRecord
-      made b = cond b (record { refusal = invalid_order; filter = blank_taps capacity }) (record { refusal = no_refusal; filter = holding capacity ts ready_made })
+      made b = cond b (record { refusal = invalid_order; filter = blank_taps capacity })
+          (record { refusal = no_refusal; filter = holding capacity ts ready_made })
 
       go : (b : Bool) → order_refused (length ts) capacity ≡ b → (made b).refusal ≡ 0 → Fresh (fir capacity f) (made b).filter
       go true e r = absurd (one r)

@@ -38,7 +38,8 @@ module _ (f : Format) (ts : List Float) where
   sum-take y (u ∷ us) (x ∷ L) zero h k = sum-none f us (add f y (mul f u x))
   sum-take y (u ∷ us) (x ∷ L) (suc n) h k = sum-take (add f y (mul f u x)) us L n (omega arith) (omega arith)
 
-  pub sum-at : (X : List Float) (k : ℕ) (L : List Float) (n : ℕ) → n ≤ length ts → n ≤ length L → Past X k L n → sum_at f ts n X k ≡ sum f plus_zero ts (take n L)
+  pub sum-at : (X : List Float) (k : ℕ) (L : List Float) (n : ℕ) → n ≤ length ts → n ≤ length L → Past X k L n
+      → sum_at f ts n X k ≡ sum f plus_zero ts (take n L)
   unfolding sum_at
   sum-at X k L zero h l p = sym (sum-none f ts plus_zero)
   sum-at X k L (suc n) h l p =
@@ -111,7 +112,8 @@ module _ (capacity : ℕ) (f : Format) (ts : List Float) (n : ℕ) where
   pub answers-full : {L : List Float} {r : TapsRecord} (xs : List Float) → Full L r → answers (fir capacity f) r xs ≡ told f ts n L xs
   unfolding answers told
   answers-full [] p = refl
-  answers-full {L} {r} (x ∷ xs) p = answers-cons (fir capacity f) r x xs p.good ∙ ap₂ ◌∷◌ (answer-full x p) (answers-full {L = x ∷ L} {r = next r x} xs (full-turn x p))
+  answers-full {L} {r} (x ∷ xs) p =
+      answers-cons (fir capacity f) r x xs p.good ∙ ap₂ ◌∷◌ (answer-full x p) (answers-full {L = x ∷ L} {r = next r x} xs (full-turn x p))
 
   -- ---- the record after the samples: its first n places hold the newest, later places stay
   abbrev pub filled : List Float → TapsRecord → TapsRecord
@@ -131,7 +133,8 @@ module _ (capacity : ℕ) (f : Format) (ts : List Float) (n : ℕ) where
       let e : r.samples ≡ take n L ++ drop n r.samples = sym (take-append-drop n r.samples)
       ∙ ap (λ (l : List Float). l ++ drop n r.samples) p.newest in
       λ i. record { taps = r.taps; samples = e i; length = r.length; held = r.held; window = r.window }
-  after-full {L} {r} (x ∷ xs) p = after-cons (fir capacity f) r x xs p.good ∙ after-full {L = x ∷ L} {r = next r x} xs (full-turn x p) ∙ filled_next (reverse_aux xs (x ∷ L)) x p
+  after-full {L} {r} (x ∷ xs) p =
+      after-cons (fir capacity f) r x xs p.good ∙ after-full {L = x ∷ L} {r = next r x} xs (full-turn x p) ∙ filled_next (reverse_aux xs (x ∷ L)) x p
 
 -- ---- the places of a block's output
 pub written-told : (f : Format) (ts : List Float) (n : ℕ) (L xs output : List Float) → length xs ≤ length output → written (told f ts n L xs) output
@@ -181,7 +184,8 @@ unfolding clouded_in told clouds_from
 count-told f ts n L [] h = refl
 count-told f ts n L (x ∷ xs) h =
     let e : is_clouded (marked (not_all_finite (take n (x ∷ L))) (sum f plus_zero ts (take n (x ∷ L)))) ≡ ltb (age_after n (min (finite_run L) n) x) n =
-    clouded-marked (not_all_finite (take n (x ∷ L))) (sum f plus_zero ts (take n (x ∷ L))) ∙ run-finite n (x ∷ L) (omega arith) ∙ capped-ltb (finite_run (x ∷ L)) n
+    clouded-marked (not_all_finite (take n (x ∷ L))) (sum f plus_zero ts (take n (x ∷ L))) ∙ run-finite n (x ∷ L) (omega arith)
+    ∙ capped-ltb (finite_run (x ∷ L)) n
     ∙ ap (λ (z : ℕ). ltb z n) (age-is n L x) in
     ap₂ (λ (b : Bool) (z : ℕ). cond b 1 0 + z) e (count-told f ts n (x ∷ L) xs (omega arith) ∙ ap (λ (z : ℕ). clouds_from n z xs) (age-is n L x))
 

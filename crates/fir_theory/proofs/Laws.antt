@@ -229,7 +229,8 @@ module _ (capacity : ℕ) (ts : List Float) where
   made-many h k e = rw (ne_eqb (length ts) 0 (λ z. omega arith), lt-ltb capacity (length ts) k, e)
 
   pub made : {l s : List Float} → 1 ≤ length ts → length ts ≤ capacity → s ≡ zeros capacity → l ≡ copied ts (zeros capacity)
-      → ◌≡◌ {A = FirDesignRecord} (record { refusal = no_refusal; filter = record { taps = l; samples = s; length = length ts; held = 0; window = ready_made } })
+      → ◌≡◌ {A = FirDesignRecord}
+      (record { refusal = no_refusal; filter = record { taps = l; samples = s; length = length ts; held = 0; window = ready_made } })
       (from_coeffs capacity ts)
   unfolding from_coeffs order_refused holding copied
   made h k es e =

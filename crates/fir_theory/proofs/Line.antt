@@ -58,7 +58,8 @@ module _ (f : Format) (ts : List Float) (n : ℕ) (s input line : List Float) (f
       ∙ back_at n s (n - 1) (n - 1 - i) (omega arith) ∙ ap (λ (z : ℕ). get_or s z nan) (omega arith)
 
   new : (j : ℕ) → j < e → get_or line (n + j) nan ≡ get_or (take e (drop from input)) j nan
-  new j h = at-line (n + j) (omega arith) ∙ ap (λ (z : ℕ). get_or (back_from n s (n - 1) ++ take e (drop from input)) (z + j) nan) (sym (back-length n s (n - 1)))
+  new j h = at-line (n + j) (omega arith)
+      ∙ ap (λ (z : ℕ). get_or (back_from n s (n - 1) ++ take e (drop from input)) (z + j) nan) (sym (back-length n s (n - 1)))
       ∙ get_or-append-add (back_from n s (n - 1)) (take e (drop from input)) j nan
 
   few : length (take e (drop from input)) ≡ e
@@ -69,7 +70,8 @@ module _ (f : Format) (ts : List Float) (n : ℕ) (s input line : List Float) (f
   first-stretch =
       let q : suc (n - 1) ≡ n = omega arith in
       ap₂ (λ (k m : ℕ). sums_from f ts n line k m) (sym q) (sym few)
-      ∙ values-at f ts n line (n - 1) s (take e (drop from input)) enough held old (λ j h. ap (λ (z : ℕ). get_or line (z + j) nan) q ∙ new j (omega (arith, few)))
+      ∙ values-at f ts n line (n - 1) s (take e (drop from input)) enough held old
+      (λ j h. ap (λ (z : ℕ). get_or line (z + j) nan) q ∙ new j (omega (arith, few)))
 
   -- the history after those
   then : Past line (n - 1 + e) (reverse_aux (take e (drop from input)) s) n
@@ -93,7 +95,8 @@ module _ (f : Format) (ts : List Float) (n : ℕ) (s input line : List Float) (f
     beyond i h =
         let a : from + n - 1 - i ≡ from + (n - 1 - i) = omega arith in
         let b : n + (n - 1 - i) ≡ n - 1 + e - i = omega arith in
-        ap (λ (z : ℕ). get_or input z nan) a ∙ sym (get_or-drop from input (n - 1 - i) nan) ∙ sym (get_or-take e (drop from input) (n - 1 - i) nan (omega arith))
+        ap (λ (z : ℕ). get_or input z nan) a ∙ sym (get_or-drop from input (n - 1 - i) nan)
+        ∙ sym (get_or-take e (drop from input) (n - 1 - i) nan (omega arith))
         ∙ sym (new (n - 1 - i) (omega arith))
         ∙ ap (λ (z : ℕ). get_or line z nan) b ∙ then i h
 

@@ -97,7 +97,8 @@ module _ (f : Format) where
   inf-is s = inf-value f s ∙ ap (λ (z : ℕ). z * den (inf s)) (spare-is f)
 
   module _ (s : Bool) (ρ : Real) (law : Lawful ρ) (cut : Cut ρ) where
-    mid_at : (v w : Float) (R W : ℕ) → num f v * 2 ^ low f ≡ R * den v → num f w * 2 ^ low f ≡ W * den w → mid_num f v w * (2 * 2 ^ low f) ≡ (R + W) * mid_den v w
+    mid_at : (v w : Float) (R W : ℕ) → num f v * 2 ^ low f ≡ R * den v → num f w * 2 ^ low f ≡ W * den w
+        → mid_num f v w * (2 * 2 ^ low f) ≡ (R + W) * mid_den v w
     mid_at v w R W x y = middle (num f v) (den v) (num f w) (den w) (2 ^ low f) R W x y
 
     pub overflows-back : Nearest f ρ s (inf s) → ρ.at_least (edge_num f) (edge_den f)

@@ -1,5 +1,7 @@
 -- A pass in place, in either direction.
-use Rattle.std.proofs.Common.{◌≡◌, ℕ, suc, ◌+◌, ◌<◌, ◌≤◌, List, [], ◌∷◌, ◌++◌, reverse, length, get_or, take, drop, set, sym, refl, ap, ◌∙◌, append_assoc, append-nil, add-one, arith, length-set, drop_of_length-le, take_all, drop-cons, take-suc, get_or-set_same, take-suc-set, drop-set-lt}
+use Rattle.std.proofs.Common.{◌≡◌, ℕ, suc, ◌+◌, ◌<◌, ◌≤◌, List, [], ◌∷◌, ◌++◌, reverse, length, get_or, take, drop, set, sym, refl, ap, ◌∙◌, append_assoc}
+use Rattle.std.proofs.Common.{append-nil, add-one, arith, length-set, drop_of_length-le, take_all, drop-cons, take-suc, get_or-set_same, take-suc-set}
+use Rattle.std.proofs.Common.{drop-set-lt}
 use mathlib.Core.List.{reverse-cons, reverse-append, reverse-reverse}
 use lib.Seq.{take-length, drop-length, take-set-le}
 use lib.Ieee.{Float, nan}

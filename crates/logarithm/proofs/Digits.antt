@@ -1,5 +1,9 @@
 -- A finite float above zero as m * 2 ^ e with 1 ≤ m < 2.
-use Rattle.std.proofs.Common.{◌≡◌, ℕ, zero, suc, ◌+◌, ◌-◌, ◌*◌, ◌/◌, ◌%◌, ◌^◌, ◌<◌, ◌≤◌, true, false, ◌&&◌, T, eqb, ltb, leb, ℤ, pos, negsuc, ◌+ℤ◌, sym, refl, ap, ◌∙◌, subst, inl, inr, true≢false, le_trans, le_of_eq, lt_of_lt_of_le, le_of_suc-le-suc, lt_of_le_of_lt, le_of_lt, lt_irrefl, mul-le-mul_right, mod-lt, mod-eq_of_lt, zero-lt-suc, mul_assoc, add_comm, le_antisymm, mul-le-mul_left, mul-lt-mul_of_pos_right, mul-pos, one-mul, lt_of_not-le, zero-mul, mul-one, mul_right_comm, not-le_of_lt, arith, lit≤, le→leb, ltb→lt, lt→ltb, pow_pos, pow_mono, pow-add, shl_lt}
+use Rattle.std.proofs.Common.{◌≡◌, ℕ, zero, suc, ◌+◌, ◌-◌, ◌*◌, ◌/◌, ◌%◌, ◌^◌, ◌<◌, ◌≤◌, true, false, ◌&&◌, T, eqb, ltb, leb, ℤ, pos, negsuc, ◌+ℤ◌, sym, refl}
+use Rattle.std.proofs.Common.{ap, ◌∙◌, subst, inl, inr, true≢false, le_trans, le_of_eq, lt_of_lt_of_le, le_of_suc-le-suc, lt_of_le_of_lt, le_of_lt, lt_irrefl}
+use Rattle.std.proofs.Common.{mul-le-mul_right, mod-lt, mod-eq_of_lt, zero-lt-suc, mul_assoc, add_comm, le_antisymm, mul-le-mul_left, mul-lt-mul_of_pos_right}
+use Rattle.std.proofs.Common.{mul-pos, one-mul, lt_of_not-le, zero-mul, mul-one, mul_right_comm, not-le_of_lt, arith, lit≤, le→leb, ltb→lt, lt→ltb, pow_pos}
+use Rattle.std.proofs.Common.{pow_mono, pow-add, shl_lt}
 use mathlib.Core.Path.{subst⁻¹}
 use native.Mathlib.Nat.{eq_of_mul-eq-mul_right, pow-succ'}
 use lib.Ieee.{Float, nan, inf, fin, binary64, up, down, size, odd, minus, fits, to_bits}
@@ -165,7 +169,8 @@ low-pos x f p z = go (to_bits binary64 x % 2 ^ 52) (subst (λ (y : Float). T (po
     go zero h = unfold odd in absurd h
     go (suc t) h = zero-lt-suc t
 
-pub parts_low : (x : Float) (q j : ℕ) → T (fits binary64 x) → to_bits binary64 x / 2 ^ 52 ≡ 0 → q ≡ to_bits binary64 x % 2 ^ 52 * 2 ^ j → 2 ^ 52 ≤ q → q < 2 ^ 53
+pub parts_low : (x : Float) (q j : ℕ) → T (fits binary64 x) → to_bits binary64 x / 2 ^ 52 ≡ 0 → q ≡ to_bits binary64 x % 2 ^ 52 * 2 ^ j → 2 ^ 52 ≤ q
+    → q < 2 ^ 53
     → parts_of x ≡ record { m = odd 53 false q 1022 1074; e = minus 0 (1022 + j) }
 parts_low x q j f z e lo hi =
     let t = to_bits binary64 x % 2 ^ 52 in

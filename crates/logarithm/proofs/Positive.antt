@@ -1,5 +1,6 @@
 -- What the tests of `ln` leave: a finite number above 0.
-use Rattle.std.proofs.Common.{◌≡◌, zero, suc, ◌+◌, ◌*◌, Bool, true, false, not, T, sym, refl, ◌∙◌, true≢false, le_trans, le-add_right, zero-lt-suc, mul-pos, zero-mul, not-le_of_lt, lt→ltb, pow_pos, ltb-false}
+use Rattle.std.proofs.Common.{◌≡◌, zero, suc, ◌+◌, ◌*◌, Bool, true, false, not, T, sym, refl, ◌∙◌, true≢false, le_trans, le-add_right, zero-lt-suc, mul-pos}
+use Rattle.std.proofs.Common.{zero-mul, not-le_of_lt, lt→ltb, pow_pos, ltb-false}
 use lib.Ieee as Ieee
 use lib.Ieee.{Float, nan, inf, fin, binary64, up, down, lt, eq, of_bits}
 use lib.Ieee.Fits.{up_pos}

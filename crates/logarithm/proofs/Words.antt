@@ -1,5 +1,6 @@
 -- The machine's signed numbers at 64 bits: the magnitude of a - b, and z + 1.
-use Rattle.std.proofs.Common.{ℕ, suc, ◌+◌, ◌-◌, ◌<◌, ◌≤◌, Bool, true, false, cond, leb, ℤ, pos, negsuc, ◌+ℤ◌, lt_of_lt_of_le, lt_of_le_of_lt, arith, lit≤, w64, SFits}
+use Rattle.std.proofs.Common.{ℕ, suc, ◌+◌, ◌-◌, ◌<◌, ◌≤◌, Bool, true, false, cond, leb, ℤ, pos, negsuc, ◌+ℤ◌, lt_of_lt_of_le, lt_of_le_of_lt, arith, lit≤, w64}
+use Rattle.std.proofs.Common.{SFits}
 use mathlib.Core.Path.{subst⁻¹}
 use lib.Ieee.{minus}
 use lib.Signed.{mag}

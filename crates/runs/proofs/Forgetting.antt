@@ -10,7 +10,8 @@ use Rattle.runs.specs.Refusals.{no_refusal, short_output}
 use Rattle.runs.specs.Runs as Runs
 use Rattle.runs.specs.Runs.{Answer, clouded_in, placed, written, Filter, Fresh, refused_block, answer, answers, after}
 use Rattle.runs.specs.Forgetting.{Call, step, block, reset, Outcome, stepped, blocked, was_reset, outcome, left, run, Plain, is_short, kept_after}
-use Rattle.runs.specs.Forgetting.{plain_answer, plain_answers, plain_outcome, plain_run, answered, is_reset, dues, all, shown, places, of_step, of_block, seen_of}
+use Rattle.runs.specs.Forgetting.{plain_answer, plain_answers, plain_outcome, plain_run, answered, is_reset, dues, all, shown, places, of_step, of_block}
+use Rattle.runs.specs.Forgetting.{seen_of}
 use Rattle.runs.specs.Forgetting.{seen, refused_by, Forgets}
 use Rattle.lists.proofs.Tests.{both}
 use Rattle.runs.proofs.Laws.{marked-accepted, step_is}
@@ -166,7 +167,8 @@ module _ (F : Filter) (P : Plain) (fed : P.Fed) (S : Simulates F P fed) where
   pub all_same : {kept : List Float} {s : F.State} (calls : List Call) → S.Beside true kept s → run F s calls ≡ plain_run P fed kept calls
   unfolding run plain_run
   all_same [] b = refl
-  all_same {kept} (c ∷ calls) b = ap₂ ◌∷◌ (call_same c b (all-due P fed (length kept) (answered c))) (all_same {kept = kept_after kept c} calls (call-beside c b))
+  all_same {kept} (c ∷ calls) b =
+      ap₂ ◌∷◌ (call_same c b (all-due P fed (length kept) (answered c))) (all_same {kept = kept_after kept c} calls (call-beside c b))
 
 -- ---- a record that fails its check
 module _ (F : Filter) (s : F.State) (h : F.check s ≡ false) where

@@ -28,7 +28,8 @@ all_none = refl
 
 pub all_append : (xs ys : List Float) → all_finite (xs ++ ys) ≡ (all_finite xs && all_finite ys)
 all_append [] ys = ap (λ (b : Bool). b && all_finite ys) (sym all_none)
-all_append (x ∷ xs) ys = all_cons x (xs ++ ys) ∙ ap (λ (b : Bool). finite x && b) (all_append xs ys) ∙ sym (and_assoc (finite x) (all_finite xs) (all_finite ys))
+all_append (x ∷ xs) ys =
+    all_cons x (xs ++ ys) ∙ ap (λ (b : Bool). finite x && b) (all_append xs ys) ∙ sym (and_assoc (finite x) (all_finite xs) (all_finite ys))
     ∙ ap (λ (b : Bool). b && all_finite ys) (sym (all_cons x xs))
 
 -- a test of these, and a test of one more

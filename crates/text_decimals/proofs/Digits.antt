@@ -133,7 +133,8 @@ module _ (token : List ℕ) where
   unfolding count_of
   count-many h = rw (lt-leb (length token) 9 h, and-false, and-false)
 
-  pub count-is : {e v : ℕ} → e ≡ run_end (in_class Digit) token 0 → e ≡ length token → 1 ≤ length token → length token ≤ 9 → v ≡ min (value_after 10 0 token) limit
+  pub count-is : {e v : ℕ} → e ≡ run_end (in_class Digit) token 0 → e ≡ length token → 1 ≤ length token → length token ≤ 9
+      → v ≡ min (value_after 10 0 token) limit
       → Count v ≡ count_of token
   unfolding count_of
   count-is {e} {v} r q h k f =
@@ -148,7 +149,8 @@ module _ (whole fraction : List ℕ) where
   decimal-none h = rw (lt-leb 1 (length whole) h)
 
   -- what the two loops read
-  both_read : {a v : ℕ} → a ≡ min (value_after 10 0 whole) limit → v ≡ min (value_after 10 a fraction) limit → v ≡ min (value_after 10 0 (whole ++ fraction)) limit
+  both_read : {a v : ℕ} → a ≡ min (value_after 10 0 whole) limit → v ≡ min (value_after 10 a fraction) limit
+      → v ≡ min (value_after 10 0 (whole ++ fraction)) limit
   both_read {a} {v} f g = g ∙ ap (λ (z : ℕ). min (value_after 10 z fraction) limit) f ∙ capped (value_after 10 0 whole) fraction
       ∙ ap (λ (z : ℕ). min z limit) (sym (value-append 10 0 whole fraction))
 

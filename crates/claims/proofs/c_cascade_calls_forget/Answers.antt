@@ -15,5 +15,6 @@ returns c = record {
   shows = λ numbers counts calls outcomes l. c-calls-run cascade_kind cascade-read-back l;
   forgets = λ numbers counts calls outcomes l.
       let s = cascade_at numbers counts in
-      forgets-shown (cascade binary64) (plain_cascade binary64) coefficients_of s calls (c-calls-run cascade_kind cascade-read-back l) (forgets binary64 s calls);
+      forgets-shown (cascade binary64) (plain_cascade binary64) coefficients_of s calls (c-calls-run cascade_kind cascade-read-back l)
+      (forgets binary64 s calls);
 }

@@ -162,7 +162,8 @@ designed-is n cutoff w = go (eqb (validate_fir n cutoff) 0) refl
   where
     go : (b : Bool) → eqb (validate_fir n cutoff) 0 ≡ b → (let m : FirDesignRecord = cond b
         (record { refusal = no_refusal; filter = holding max_taps (fir_taps w n cutoff) (code_of w) })
-        (record { refusal = validate_fir n cutoff; filter = blank_taps max_taps }) in m.refusal ≡ 0 → m.filter ≡ holding max_taps (fir_taps w n cutoff) (code_of w))
+        (record { refusal = validate_fir n cutoff; filter = blank_taps max_taps }) in
+        m.refusal ≡ 0 → m.filter ≡ holding max_taps (fir_taps w n cutoff) (code_of w))
     go true e r = refl
     go false e r = absurd (eqb-false (validate_fir n cutoff) 0 e r)
 
@@ -202,7 +203,8 @@ designed-made n cutoff window =
 pub returns : goal.returns
 unfolding butterworth_lp butterworth_hp chebyshev1_lp chebyshev2_lp butterworth_bp
 returns c = record {
-  low_pass = λ n cutoff rate. prototype-made (validate_params cutoff rate n) (ButterworthLow (warped cutoff rate)) n _ refl (butterworth-lp-fresh n cutoff rate);
+  low_pass = λ n cutoff rate. prototype-made (validate_params cutoff rate n) (ButterworthLow (warped cutoff rate)) n _ refl
+      (butterworth-lp-fresh n cutoff rate);
   high_pass = λ n cutoff rate. prototype-made (validate_params cutoff rate n) (ButterworthHigh (warped cutoff rate)) n _ refl
       (butterworth-hp-fresh n cutoff rate);
   chebyshev_i = λ n cutoff db rate. prototype-made (validate_chebyshev cutoff db rate n) (cheb1_prototype n db (warped cutoff rate)) n _ refl

@@ -15,6 +15,7 @@ use Rattle.claims.proofs.release_sheet.Goals as goal
 
 pub returns : goal.returns
 unfolding by_default butterworth_lp butterworth_bp fir_lp validate_params validate_band validate_fir order_refused not_positive cutoff_refused band_refused
-    denominator_of lp_biquad hp_biquad lp_first hp_first sqrt_of step block pushed next held_of not_all_finite clouding sum value mark check_taps holding from_coeffs
+    denominator_of lp_biquad hp_biquad lp_first hp_first sqrt_of step block pushed next held_of not_all_finite clouding sum value mark check_taps holding
+    from_coeffs
     add sub mul div neg lt le is_nan of_int of_bits to_bits
 returns c = record { numbered = λ cutoff window p q. refl; holds = λ cutoff window p q. refl; by_default = λ cutoff window. refl }

@@ -12,7 +12,8 @@ use Rattle.fir_block.proofs.pass_all.Goals.{then-m-n, else-m-n}
 
 pub returns : goal.returns
 returns c =
-    let few : c.if-m-n.few ≡ min (length c.args.input.now - c.args.from) c.args.n = elim c.if-m-n.branch [ then-m-n w ↦ omega arith | else-m-n w ↦ omega arith ] in
+    let few : c.if-m-n.few ≡ min (length c.args.input.now - c.args.from) c.args.n =
+    elim c.if-m-n.branch [ then-m-n w ↦ omega arith | else-m-n w ↦ omega arith ] in
     λ window g. let p = c.requires in
     let w = c.line_of-line.ensures in
     let r = lent_taps c.args.taps.now c.args.samples.now c.args.n c.args.n window in (

@@ -32,7 +32,8 @@ returns-then-b-eq0 c =
     let e = to_z-of_z w64 c.difference.result (sfits_of c.difference.type_inv) ∙ c.difference.ensures in
     record {
       parts = pair c.significand.ensures e
-          ∙ sym (parts_low c.args.x l.result.q l.result.j (passes (fits binary64 c.args.x) c.well_formed.0.1) c.if-b-eq0.true l.ensures.shifted l.ensures.least l.ensures.most);
+          ∙ sym (parts_low c.args.x l.result.q l.result.j (passes (fits binary64 c.args.x) c.well_formed.0.1) c.if-b-eq0.true l.ensures.shifted l.ensures.least
+          l.ensures.most);
       small = subst⁻¹ (λ (z : ℤ). mag z < 5000) e (lt_of_le_of_lt (mag-minus 0 (1022 + l.result.j)) (omega (arith, l.ensures.few_turns)));
     }
 

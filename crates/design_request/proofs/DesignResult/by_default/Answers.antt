@@ -15,10 +15,12 @@ pub returns-then-self-ne0 : goal.returns-then-self-ne0
 returns-then-self-ne0 c = sym (refused-stays _ _ _ _ c.if-self-ne0.true)
 
 pub returns-then-coefficients_are_finite-taps_are_finite : goal.returns-then-coefficients_are_finite-taps_are_finite
-returns-then-coefficients_are_finite-taps_are_finite c = sym (finite-stays _ _ _ _ (sym (test c.coefficients_are_finite.ensures c.taps_are_finite.ensures) ∙ c.if-coefficients_are_finite-taps_are_finite.true))
+returns-then-coefficients_are_finite-taps_are_finite c =
+    sym (finite-stays _ _ _ _ (sym (test c.coefficients_are_finite.ensures c.taps_are_finite.ensures) ∙ c.if-coefficients_are_finite-taps_are_finite.true))
 
 pub returns : goal.returns
 returns c =
     ap₂ (λ (d : CascadeRecord) (r : TapsRecord). record { refusal = non_finite_coefficient; cascade = d; filter = r }) c.blank-blank.ensures
     c.blank.ensures
-    ∙ sym (not_finite _ _ _ _ c.if-self-ne0.false (sym (test c.coefficients_are_finite.ensures c.taps_are_finite.ensures) ∙ c.if-coefficients_are_finite-taps_are_finite.false))
+    ∙ sym (not_finite _ _ _ _ c.if-self-ne0.false
+    (sym (test c.coefficients_are_finite.ensures c.taps_are_finite.ensures) ∙ c.if-coefficients_are_finite-taps_are_finite.false))
