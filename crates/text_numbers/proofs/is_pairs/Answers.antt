@@ -1,5 +1,8 @@
 -- `text_numbers::is_pairs` meets its contract.
+use Prim.Native.Nat.{◌%◌}
 use native.Mathlib.Nat.{zero-add}
+use native.Mathlib.Omega.{arith}
+use lib.ListN.{length}
 use borrow.Author.Tests.{eq-eqb, ne_eqb}
 use Rattle.text_decimals.specs.Decimals.{all}
 use Rattle.text_numbers.specs.Pairs.{is_pairs}
@@ -8,9 +11,9 @@ use Rattle.text_numbers.proofs.is_pairs.Goals as goal
 
 pub returns-then-token-ne0 : goal.returns-then-token-ne0
 unfolding is_pairs
-returns-then-token-ne0 c = rw (ne_eqb _ 0 c.if-token-ne0.true)
+returns-then-token-ne0 c = rw (ne_eqb (length c.args.token.now % 2) 0 (omega arith))
 
 pub returns : goal.returns
 unfolding is_pairs all
 returns c =
-    rw (eq-eqb _ 0 c.if-token-ne0.false, c.run_of.ensures, hex-run c.args.token.now 0, zero-add)
+    rw (eq-eqb (length c.args.token.now % 2) 0 (omega arith), c.run_of.ensures, hex-run c.args.token.now 0, zero-add)
