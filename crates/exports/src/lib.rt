@@ -1,5 +1,5 @@
-// The square root and the elementary functions by number, under a C name: for the programs that test them (vectors) and
-// measure them (accuracy/). Not part of what the recorder runs.
+// The square root and the elementary functions by number: for the program that tests them (vectors), and for exports_c, which
+// hands them to C. Not part of what the recorder runs.
 #![tactic(auto)]
 
 ghost use Rattle.std.specs.Prelude.{◌≡◌};

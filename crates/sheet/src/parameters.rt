@@ -281,8 +281,8 @@ fn counted_samples(
     others: usize,
     numbers: &mut [f64],
 ) -> Samples
-    requires fact_1 { others ≤ 3 }
-    requires fact_2 { 256 ≤ length numbers.old }
+    requires few { others ≤ 3 }
+    requires room { 256 ≤ length numbers.old }
     ensures { result.n ≤ 256 }
 {
     let count = next_count(rest, from);
