@@ -7,10 +7,10 @@ use Rattle.fir_theory.proofs.Laws.{made_none, made-many, made}
 use Rattle.fir.proofs.TapRecord.from_coeffs_raw.Goals as goal
 
 pub returns-then-length-lt1 : goal.returns-then-length-lt1
-returns-then-length-lt1 c = made_none max_taps c.args.coeffs.now c.if-length-lt1.true c.blank-filter.ensures
+returns-then-length-lt1 c = made_none max_taps c.args.coeffs.now (omega arith) c.blank-filter.ensures
 
 pub returns-then-length-gt-MAX_TAPS : goal.returns-then-length-gt-MAX_TAPS
-returns-then-length-gt-MAX_TAPS c = made-many max_taps c.args.coeffs.now c.if-length-lt1.false c.if-length-gt-MAX_TAPS.true
+returns-then-length-gt-MAX_TAPS c = made-many max_taps c.args.coeffs.now (omega arith) (omega arith)
     c.blank-filter-then-length-gt-MAX_TAPS.ensures
 
 pub returns : goal.returns
