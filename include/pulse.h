@@ -21,30 +21,30 @@
  *
  * Stack. The stack is not part of the proof. A call takes at most this many bytes of it, its return address included:
  *
- *     pulse_design_butterworth_lp         1928
- *     pulse_design_butterworth_lp_raw     1368
- *     pulse_design_butterworth_hp         1928
- *     pulse_design_butterworth_hp_raw     1368
- *     pulse_design_butterworth_bp         2024
- *     pulse_design_butterworth_bp_raw     1736
- *     pulse_design_chebyshev1_lp          2040
- *     pulse_design_chebyshev1_lp_raw      1736
- *     pulse_design_chebyshev2_lp          2040
- *     pulse_design_chebyshev2_lp_raw      1736
+ *     pulse_design_butterworth_lp         1704
+ *     pulse_design_butterworth_lp_raw     1144
+ *     pulse_design_butterworth_hp         1704
+ *     pulse_design_butterworth_hp_raw     1144
+ *     pulse_design_butterworth_bp         1328
+ *     pulse_design_butterworth_bp_raw     1040
+ *     pulse_design_chebyshev1_lp          1800
+ *     pulse_design_chebyshev1_lp_raw      1512
+ *     pulse_design_chebyshev2_lp          1800
+ *     pulse_design_chebyshev2_lp_raw      1512
  *     pulse_cascade_step                    56
- *     pulse_cascade_block                  504
- *     pulse_cascade_block_in_place        2648
+ *     pulse_cascade_block                  440
+ *     pulse_cascade_block_in_place        2552
  *     pulse_cascade_reset                   16
- *     pulse_design_fir_lp                 5912
- *     pulse_design_fir_lp_raw             4392
- *     pulse_fir_from_coeffs               2664
- *     pulse_fir_from_coeffs_raw           1128
- *     pulse_fir_step                        56
+ *     pulse_design_fir_lp                 4904
+ *     pulse_design_fir_lp_raw             2840
+ *     pulse_fir_from_coeffs                104
+ *     pulse_fir_from_coeffs_raw            104
+ *     pulse_fir_step                         56
  *     pulse_fir_block                     1288
- *     pulse_fir_block_in_place            3416
+ *     pulse_fir_block_in_place            3400
  *     pulse_fir_reset                       40
- *     pulse_j211                            88
- *     pulse_read_channel                    74
+ *     pulse_j211                             88
+ *     pulse_read_channel                    56
  *
  * These are bounds, which `tools/stack` reads off the archive's machine code; no function calls itself. They leave out what
  * memcpy, memmove and memset take: little by themselves, but kilobytes where the dynamic loader looks one of them up at its

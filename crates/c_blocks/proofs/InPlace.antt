@@ -1,25 +1,23 @@
--- A block in place: its parts one after the other, for any filter, and over the slices of any kind of record that is read back as it was written.
-use mathlib.Core.Path.{◌≡◌, refl, sym, ap, ap₂, ◌∙◌, subst}
+-- A block in place: its parts one after the other, for any filter, and over the slices of any lent record.
+use mathlib.Core.Path.{◌≡◌, refl, sym, ap, ◌∙◌, subst}
 use mathlib.Core.Bool.{Bool, true, false, cond}
 use mathlib.Core.List.{List, [], ◌∷◌, ◌++◌, append_assoc}
-use Prim.Native.Nat.{ℕ, ◌+◌, ◌-◌, ◌≤◌, min}
+use Prim.Native.Nat.{ℕ, ◌+◌, ◌-◌, ◌≤◌}
 use native.Mathlib.Omega.{arith}
-use lib.Dec.{eqb, ltb}
-use lib.ListN.{length, get_or, take, drop, length-append, length-take, length-drop}
+use lib.Dec.{ltb}
+use lib.ListN.{length, take, drop, length-append, length-take, length-drop}
 use lib.Seq.{drop-drop, drop_at}
 use lib.Ieee.{Float}
-use Rattle.lists.specs.Copies.{copied}
-use Rattle.lists.proofs.Copies.{copied-front}
-use borrow.Author.Tests.{eqb-true, eqb-false}
-use Rattle.runs.specs.Refusals.{no_refusal, short_output}
-use Rattle.runs.specs.Runs.{Filter, Answer, Block, refused_block, clouded_in, written, answers, after, block}
+use Rattle.runs.specs.Refusals.{short_output, bad_call}
+use Rattle.runs.specs.Runs.{Filter, Block, refused_block, clouded_in, written, answers, after, block}
 use Rattle.runs.proofs.Laws.{Running, run-start, run-part, run-done, written-length, block-is, block_refused, check-after}
+use Rattle.runs.proofs.Lent.{lent-block, unfit-block}
 use Rattle.c_calls.specs.Kinds.{Kind}
-use Rattle.c_calls.specs.Calls.{CallRecord, unchanged, block_call, block_in_place_call}
-use Rattle.c_calls.proofs.Laws as Laws
-use Rattle.c_calls.proofs.Laws.{block-not-single, block-unfit, lend-block, block-accepted}
-use Rattle.c_calls.proofs.Lists.{ReadBack, good-after}
-use Rattle.c_blocks.specs.Ready.{Ready, part_length}
+use Rattle.c_calls.specs.Calls.{unchanged, record_of, fitting, block_call, block_in_place_call}
+use Rattle.c_blocks.specs.Lent.{BlocksLent}
+use Rattle.c_calls.proofs.Laws as Calls
+use Rattle.c_calls.proofs.Laws.{block-not-single, block-unfit, lend-block}
+use Rattle.c_blocks.proofs.Laws.{left-accepted, left-refused}
 
 -- ---- a block over its own input, of which the places from i on hold what they held at the start
 pub record InPlace (F : Filter) (s₀ : F.State) (old : List Float) (s : F.State) (samples : List Float) (clouded i : ℕ) : Type 0 where
@@ -72,183 +70,120 @@ module _ (F : Filter) (keeps : (s : F.State) (x : Float) → F.check s ≡ true 
       → ◌≡◌ {A = Block F.State} (record { refusal = 0; clouded = clouded; state = s; output = samples }) (block F s₀ old old)
   place-done h e p = run-done F keeps s₀ old old h e (omega arith) p.running
 
--- ---- a part that was copied into places for a part, and is lent from there
-module _ (part places : List Float) {copy : List Float} (l : length places ≡ part_length) (h : length part ≤ part_length) (e : copy ≡ copied part places) where
-  copy-lent : take (length part) copy ≡ part
-  copy-lent = ap (take (length part)) e ∙ copied-front part places (length part) refl (omega (arith, l))
-
-  pub lent_length : length part ≡ length (take (length part) copy)
-  lent_length = sym (ap length copy-lent)
-
-  -- a block from the copy to the part's places is a block in place
-  pub part-ran : (K : Kind) (numbers : List Float) (counts tally : List ℕ) {c : CallRecord}
-      → c ≡ block_call K numbers counts (take (length part) copy) part tally → c ≡ block_in_place_call K numbers counts part tally
-  unfolding block_in_place_call
-  part-ran K numbers counts tally ran = ran ∙ ap (λ (xs : List Float). block_call K numbers counts xs part tally) copy-lent
-
 -- ---- over slices
-module _ (K : Kind) (numbers : List Float) (counts : List ℕ) (input output : List Float) (tally : List ℕ) where
-  abbrev s : K.filter.State
-  s = K.read numbers counts
+pub not-single : (K : Kind) (ns : List Float) (cs : List ℕ) (buffer : List Float) (tally : List ℕ) → (length tally ≡ 1 → ⊥)
+    → unchanged K ns cs buffer tally bad_call ≡ block_in_place_call K ns cs buffer tally
+unfolding block_in_place_call
+not-single K ns cs buffer tally h = block-not-single K ns cs buffer buffer tally h
 
-  abbrev ys : List Answer
-  ys = answers K.filter s input
-
-  -- an accepted block
-  call-is : length tally ≡ 1 → K.fit numbers counts ≡ true → K.filter.check s ≡ true → length input ≤ length output
-      → block_call K numbers counts input output tally
-      ≡ record {
-        refusal = no_refusal;
-        numbers = K.numbers (after K.filter s input);
-        counts = K.counts (after K.filter s input);
-        answers = written ys output;
-        clouded = clouded_in ys ∷ [];
-      }
-  call-is single fit good room =
-      sym (block-accepted K numbers counts input output tally single
-      (lend-block K numbers counts fit refl input output (sym (block-is K.filter s input output good room))) refl refl refl refl)
-
-module _ (K : Kind) (B : ReadBack K) where
+module _ (K : Kind) (keeps : (s : K.filter.State) (x : Float) → K.filter.check s ≡ true → K.filter.check (K.filter.next s x) ≡ true) where
   abbrev F : Filter
   F = K.filter
 
-  -- the slices after a block that left the record s
-  ready_of : {r c : ℕ} {numbers ys ys' : List Float} {counts tally : List ℕ} (s : F.State) → B.Good s → F.check s ≡ true
-      → ◌≡◌ {A = CallRecord} (record { refusal = r; numbers = numbers; counts = counts; answers = ys; clouded = tally })
-      (record { refusal = no_refusal; numbers = K.numbers s; counts = K.counts s; answers = ys'; clouded = c ∷ [] })
-      → (K.read numbers counts ≡ s) × Ready K numbers counts tally
-  ready_of s g h z =
-      let en = ap (λ (k : CallRecord). k.numbers) z in
-      let ec = ap (λ (k : CallRecord). k.counts) z in
-      let back = ap₂ K.read en ec ∙ B.back s g in (
-        back,
-        record {
-          fit = ap₂ K.fit en ec ∙ B.fit-back s g;
-          good = ap F.check back ∙ h;
-          held = en ∙ ap K.numbers (sym back);
-          held_counts = ec ∙ ap K.counts (sym back);
-          single = ap (λ (k : CallRecord). length k.clouded) z;
-        },
-      )
+  -- slices that hold a good record, as it is written
+  pub record Ready (ns : List Float) (cs : List ℕ) : Type 0 where
+    pub fit : K.fit ns cs ≡ true
+    pub good : F.check (K.read ns cs) ≡ true
+    pub held : ns ≡ K.numbers (K.read ns cs)
+    pub held_counts : cs ≡ K.counts (K.read ns cs)
 
-  -- ---- the parts one after the other
-  module _ (numbers₀ : List Float) (counts₀ : List ℕ) (old : List Float) (tally₀ : List ℕ) where
-    -- before place i: the slices hold what the samples before it made of the record
-    pub record Parts (numbers : List Float) (counts : List ℕ) (buffer : List Float) (tally : List ℕ) (total i : ℕ) : Type 0 where
-      pub start : Ready K numbers₀ counts₀ tally₀
-      pub ready : Ready K numbers counts tally
-      pub place : InPlace F (K.read numbers₀ counts₀) old (K.read numbers counts) buffer total i
+  -- a block of slices that fit and hold a good record: it is a block of the record, accepted, and leaves such slices
+  module _ (ns : List Float) (cs : List ℕ) (input output : List Float) (fit : K.fit ns cs ≡ true) (good : F.check (K.read ns cs) ≡ true)
+      (room : length input ≤ length output) {n c : ℕ} {output' ns' : List Float} {cs' : List ℕ} (p : BlocksLent K ns cs input output n c output' ns' cs') where
+    pub ran : ◌≡◌ {A = Block F.State} (record { refusal = n; clouded = c; state = K.read ns' cs'; output = output' }) (block F (K.read ns cs) input output)
+    ran = p.ran ∙ lent-block F (fitting K ns cs) (record_of K ns cs) input output fit
 
-    pub parts-start : Ready K numbers₀ counts₀ tally₀ → Parts numbers₀ counts₀ old tally₀ 0 0
-    parts-start q = record { start = q; ready = q; place = place-start F B.keeps (K.read numbers₀ counts₀) old q.good }
+    pub accepted : n ≡ 0
+    accepted = ap (λ (b : Block F.State). b.refusal) (ran ∙ block-is F (K.read ns cs) input output good room)
+
+    after-ran : K.read ns' cs' ≡ after F (K.read ns cs) input
+    after-ran = ap (λ (b : Block F.State). b.state) (ran ∙ block-is F (K.read ns cs) input output good room)
+
+    pub left-ready : Ready ns' cs'
+    left-ready = let written = left-accepted K ns cs accepted p.leaves in record {
+      fit = p.leaves.fit ∙ fit;
+      good = rw after-ran (check-after F keeps (K.read ns cs) input good);
+      held = written.0;
+      held_counts = written.1;
+    }
+
+  -- ---- the empty block, which tests the slices and the record
+  module _ (numbered : F.refusal ≡ 0 → ⊥) (ns : List Float) (cs : List ℕ) {n c : ℕ} {ns' output' : List Float} {cs' : List ℕ}
+      (p : BlocksLent K ns cs [] [] n c output' ns' cs') where
+    -- refused, it is refused as any block over its own input is
+    pub empty-refused : (old : List Float) (tally : List ℕ) → length tally ≡ 1 → (n ≡ 0 → ⊥)
+        → record { refusal = n; numbers = ns'; counts = cs'; answers = old; clouded = tally } ≡ block_in_place_call K ns cs old tally
+    unfolding block_in_place_call
+    empty-refused old tally h z = go (K.fit ns cs) (F.check (K.read ns cs)) refl refl
+      where
+        kept : (ns' ≡ ns) × (cs' ≡ cs)
+        kept = left-refused K ns cs z p.leaves
+
+        go : (a b : Bool) → K.fit ns cs ≡ a → F.check (K.read ns cs) ≡ b
+            → record { refusal = n; numbers = ns'; counts = cs'; answers = old; clouded = tally } ≡ block_call K ns cs old old tally
+        go false b f t =
+            let e : n ≡ bad_call = ap (λ (b : Block F.State). b.refusal) (p.ran ∙ unfit-block F (fitting K ns cs) (record_of K ns cs) [] [] f) in
+            rw (kept.0, kept.1, e) (block-unfit K ns cs old old tally h f)
+        go true false f t =
+            let q = p.ran ∙ lent-block F (fitting K ns cs) (record_of K ns cs) [] [] f ∙ sym (block_refused F (K.read ns cs) [] [] t) in
+            let e : n ≡ F.refusal = ap (λ (b : Block F.State). b.refusal) q in
+            rw (kept.0, kept.1, e)
+            (Calls.block_refused K ns cs old old tally h (lend-block K ns cs f refl old old (block_refused F (K.read ns cs) old old t)) numbered)
+        go true true f t = absurd (z (accepted ns cs [] [] f t (omega arith) p))
+
+    pub empty-good : n ≡ 0 → (K.fit ns cs ≡ true) × (F.check (K.read ns cs) ≡ true)
+    empty-good z = go (K.fit ns cs) (F.check (K.read ns cs)) refl refl
+      where
+        go : (a b : Bool) → K.fit ns cs ≡ a → F.check (K.read ns cs) ≡ b → (K.fit ns cs ≡ true) × (F.check (K.read ns cs) ≡ true)
+        go false b f t =
+            let e : n ≡ bad_call = ap (λ (b : Block F.State). b.refusal) (p.ran ∙ unfit-block F (fitting K ns cs) (record_of K ns cs) [] [] f) in
+            absurd (omega (arith, e, z))
+        go true false f t =
+            let q = p.ran ∙ lent-block F (fitting K ns cs) (record_of K ns cs) [] [] f ∙ sym (block_refused F (K.read ns cs) [] [] t) in
+            let e : n ≡ F.refusal = ap (λ (b : Block F.State). b.refusal) q in
+            absurd (numbered (sym e ∙ z))
+        go true true f t = (f, t)
+
+  -- ---- the parts one after the other, over slices that the empty block left
+  module _ (ns₀ : List Float) (cs₀ : List ℕ) (old : List Float) where
+    abbrev s₀ : F.State
+    s₀ = K.read ns₀ cs₀
+
+    -- before sample i
+    pub record Parts (ns : List Float) (cs : List ℕ) (buffer : List Float) (total i : ℕ) : Type 0 where
+      pub ready : Ready ns cs
+      pub place : InPlace F s₀ old (K.read ns cs) buffer total i
+
+    -- n ≡ 0 of the empty block
+    pub parts-start : {n c : ℕ} {ns output' : List Float} {cs : List ℕ} → (F.refusal ≡ 0 → ⊥) → n ≡ 0 → BlocksLent K ns₀ cs₀ [] [] n c output' ns cs
+        → Parts ns cs old 0 0
+    unfolding after
+    parts-start numbered z p =
+        let good = empty-good numbered ns₀ cs₀ p z in
+        let same = after-ran ns₀ cs₀ [] [] good.0 good.1 (omega arith) p in
+        record { ready = left-ready ns₀ cs₀ [] [] good.0 good.1 (omega arith) p; place = rw same (place-start F keeps s₀ old good.1) }
 
     -- a part up to `to`
-    pub parts-turn : {numbers numbers' ys : List Float} {counts counts' tally tally' : List ℕ} {r total i to : ℕ} (buffer : List Float)
-        → to ≡ min (i + part_length) (length buffer)
-        → record { refusal = r; numbers = numbers'; counts = counts'; answers = ys; clouded = tally' }
-        ≡ block_in_place_call K numbers counts (take (to - i) (drop i buffer)) tally
-        → Parts numbers counts buffer tally total i
-        → Parts numbers' counts' (take i buffer ++ (ys ++ drop (to - i) (drop i buffer))) tally' (total + get_or tally' 0 0) to
+    module _ {ns buffer : List Float} {cs : List ℕ} {total i : ℕ} (q : Parts ns cs buffer total i) (to : ℕ) (low : i ≤ to) (high : to ≤ length old)
+        {n c : ℕ} {input ys ns' : List Float} {cs' : List ℕ} (copied : input ≡ take (to - i) (drop i buffer))
+        (p : BlocksLent K ns cs input (take (to - i) (drop i buffer)) n c ys ns' cs') where
+      room : length input ≤ length (take (to - i) (drop i buffer))
+      room = omega (arith, ap length copied)
+
+      pub part-accepted : n ≡ 0
+      part-accepted = accepted ns cs input (take (to - i) (drop i buffer)) q.ready.fit q.ready.good room p
+
+      pub parts-turn : Parts ns' cs' (take i buffer ++ (ys ++ drop (to - i) (drop i buffer))) (total + c) to
+      parts-turn = record {
+        ready = left-ready ns cs input (take (to - i) (drop i buffer)) q.ready.fit q.ready.good room p;
+        place = place-turn F keeps s₀ old to low high (ran ns cs input (take (to - i) (drop i buffer)) q.ready.fit q.ready.good room p
+            ∙ ap (λ (xs : List Float). block F (K.read ns cs) xs (take (to - i) (drop i buffer))) copied) q.place;
+      }
+
+    pub parts-done : {ns buffer : List Float} {cs : List ℕ} {total i : ℕ} (tally tally' : List ℕ) → length old ≤ i → length tally ≡ 1 → tally' ≡ total ∷ []
+        → K.fit ns₀ cs₀ ≡ true → F.check s₀ ≡ true → Parts ns cs buffer total i
+        → record { refusal = 0; numbers = ns; counts = cs; answers = buffer; clouded = tally' } ≡ block_in_place_call K ns₀ cs₀ old tally
     unfolding block_in_place_call
-    parts-turn {numbers} {numbers'} {ys} {counts} {counts'} {tally} {tally'} {r} {total} {i} {to} buffer h e p =
-        let low : i ≤ to = omega (arith, h, p.place.running.within, p.place.running.same) in
-        let high : to ≤ length old = omega (arith, h, p.place.running.same) in
-        let s = K.read numbers counts in
-        let s₀ = K.read numbers₀ counts₀ in
-        let q = p.ready in
-        let part = take (to - i) (drop i buffer) in
-        let s' = after F s part in
-        let c = clouded_in (answers F s part) in
-        let z = e ∙ call-is K numbers counts part part tally q.single q.fit q.good (omega arith) in
-        let et : get_or tally' 0 0 ≡ c = ap (λ (k : CallRecord). get_or k.clouded 0 0) z in
-        let ran = ap (λ (l : List Float). record { refusal = 0; clouded = c; state = s'; output = l }) (ap (λ (k : CallRecord). k.answers) z)
-        ∙ sym (block-is F s part part q.good (omega arith)) in
-        let left = ready_of s' (good-after K B s part q.good (B.good-read numbers counts q.fit)) (check-after F B.keeps s part q.good) z in
-        let turned = place-turn F B.keeps s₀ old to low high ran p.place in
-        record {
-          start = p.start;
-          ready = left.1;
-          place = rw et (subst (λ (t : F.State). InPlace F s₀ old t (take i buffer ++ (ys ++ drop (to - i) (drop i buffer))) (total + c) to) (sym left.0)
-              turned);
-        }
-
-    pub parts-done : {numbers : List Float} {counts tally tally' : List ℕ} {total i : ℕ} (buffer : List Float) → length buffer ≤ i → tally' ≡ total ∷ []
-        → Parts numbers counts buffer tally total i
-        → record { refusal = 0; numbers = numbers; counts = counts; answers = buffer; clouded = tally' } ≡ block_in_place_call K numbers₀ counts₀ old tally₀
-    unfolding block_in_place_call
-    parts-done buffer h et p =
-        let q = p.start in
-        let done = place-done F B.keeps (K.read numbers₀ counts₀) old (omega (arith, p.place.running.same)) q.good p.place in
-        block-accepted K numbers₀ counts₀ old old tally₀ q.single (lend-block K numbers₀ counts₀ q.fit refl old old done) refl p.ready.held
-        p.ready.held_counts et
-
-  -- ---- the empty block before them
-  module _ (numbers : List Float) (counts : List ℕ) (old : List Float) (tally : List ℕ) {r : ℕ} {numbers' buffer : List Float} {counts' tally' : List ℕ}
-      (e : record { refusal = r; numbers = numbers'; counts = counts'; answers = buffer; clouded = tally' } ≡ block_call K numbers counts [] old tally) where
-    abbrev s₀ : F.State
-    s₀ = K.read numbers counts
-
-    -- refused, and so is the block in place
-    pub empty-refused : (r ≡ 0 → ⊥) → record { refusal = r; numbers = numbers'; counts = counts'; answers = buffer; clouded = tally' }
-        ≡ block_in_place_call K numbers counts old tally
-    unfolding block_in_place_call
-    empty-refused h = go (eqb (length tally) 1) (K.fit numbers counts) (F.check s₀) refl refl refl
-      where
-        go : (a b c : Bool) → eqb (length tally) 1 ≡ a → K.fit numbers counts ≡ b → F.check s₀ ≡ c
-            → record { refusal = r; numbers = numbers'; counts = counts'; answers = buffer; clouded = tally' } ≡ block_call K numbers counts old old tally
-        go false b c p q t = let z = eqb-false (length tally) 1 p in
-            e ∙ sym (block-not-single K numbers counts [] old tally z) ∙ block-not-single K numbers counts old old tally z
-        go true false c p q t = let z = eqb-true (length tally) 1 p in
-            e ∙ sym (block-unfit K numbers counts [] old tally z q) ∙ block-unfit K numbers counts old old tally z q
-        go true true false p q t =
-            let z = eqb-true (length tally) 1 p in
-            let n = B.numbered.0 in
-            e ∙ sym (Laws.block_refused K numbers counts [] old tally z (lend-block K numbers counts q refl [] old (block_refused F s₀ [] old t)) n)
-            ∙ Laws.block_refused K numbers counts old old tally z (lend-block K numbers counts q refl old old (block_refused F s₀ old old t)) n
-        go true true true p q t = absurd (h (ap (λ (z : CallRecord). z.refusal)
-            (e ∙ call-is K numbers counts [] old tally (eqb-true (length tally) 1 p) q t (omega arith))))
-
-    -- accepted: the buffer is as it was, and what follows is the block in place
-    record Follows : Type 0 where
-      pub ready : Ready K numbers' counts' tally'
-      pub same : buffer ≡ old
-      pub block : block_in_place_call K numbers' counts' old tally' ≡ block_in_place_call K numbers counts old tally
-
-    empty-accepted : r ≡ 0 → Follows
-    unfolding answers after clouded_in written block_in_place_call
-    empty-accepted ok = go (eqb (length tally) 1) (K.fit numbers counts) (F.check s₀) refl refl refl
-      where
-        no : {n : ℕ} → (n ≡ 0 → ⊥) → unchanged K numbers counts old tally n ≡ block_call K numbers counts [] old tally → Follows
-        no h k = absurd (h (ap (λ (z : CallRecord). z.refusal) (k ∙ sym e) ∙ ok))
-
-        go : (a b c : Bool) → eqb (length tally) 1 ≡ a → K.fit numbers counts ≡ b → F.check s₀ ≡ c → Follows
-        go false b c p q t = no (λ z. omega (arith, z)) (block-not-single K numbers counts [] old tally (eqb-false (length tally) 1 p))
-        go true false c p q t = no (λ z. omega (arith, z)) (block-unfit K numbers counts [] old tally (eqb-true (length tally) 1 p) q)
-        go true true false p q t =
-            no B.numbered.0 (Laws.block_refused K numbers counts [] old tally (eqb-true (length tally) 1 p)
-            (lend-block K numbers counts q refl [] old (block_refused F s₀ [] old t)) B.numbered.0)
-        go true true true p q t =
-            let single = eqb-true (length tally) 1 p in
-            let z = e ∙ call-is K numbers counts [] old tally single q t (omega arith) in
-            let left = ready_of s₀ (B.good-read numbers counts q) t z in
-            let l = left.1 in
-            let before = call-is K numbers counts old old tally single q t (omega arith) in
-            let behind = call-is K numbers' counts' old old tally' l.single l.fit l.good (omega arith) in
-            record { ready = l; same = ap (λ (k : CallRecord). k.answers) z; block = behind ∙ ap (ran old) left.0 ∙ sym before }
-          where
-            ran : List Float → F.State → CallRecord
-            ran xs s = record {
-              refusal = no_refusal;
-              numbers = K.numbers (after F s xs);
-              counts = K.counts (after F s xs);
-              answers = written (answers F s xs) xs;
-              clouded = clouded_in (answers F s xs) ∷ [];
-            }
-
-    pub empty-ready : r ≡ 0 → Ready K numbers' counts' tally'
-    empty-ready ok = (empty-accepted ok).ready
-
-    pub empty-then : r ≡ 0 → {c : CallRecord} → c ≡ block_in_place_call K numbers' counts' buffer tally' → c ≡ block_in_place_call K numbers counts old tally
-    empty-then ok ran =
-        let f = empty-accepted ok in
-        ran ∙ ap (λ (l : List Float). block_in_place_call K numbers' counts' l tally') f.same ∙ f.block
+    parts-done tally tally' h single et fit good p =
+        let done = place-done F keeps s₀ old h good p.place in
+        Calls.block-accepted K ns₀ cs₀ old old tally single (lend-block K ns₀ cs₀ fit refl old old done) refl p.ready.held p.ready.held_counts et

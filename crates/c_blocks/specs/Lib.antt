@@ -1,2 +1,2 @@
--- What the parts of a block in place ask of one another. It is no part of what is promised.
-pub mod Ready
+-- What a call of a lent record shows, and what it leaves in the slices. It is no part of what the C interface promises.
+pub mod Lent

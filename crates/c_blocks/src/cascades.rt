@@ -1,96 +1,90 @@
-// Blocks of a lent cascade.
-ghost use Rattle.std.specs.Prelude.{◌≡◌, ◌≤◌, length};
-ghost use Rattle.runs.specs.Refusals.{no_refusal};
+// A cascade that a caller lends.
+ghost use Rattle.std.specs.Prelude.{◌≡◌, true, option_map};
+ghost use Rattle.std.specs.Borrow.{GName};
+ghost use Rattle.std.specs.Float.{binary64};
+ghost use Rattle.cascade.specs.View.{cascade_view};
+ghost use Rattle.c_layout.specs.Layout.{cascade_in, cascade_places, cascade_numbers, cascade_counts};
 ghost use Rattle.c_calls.specs.Kinds.{cascade_kind};
-ghost use Rattle.c_calls.specs.Calls.{block_call, block_in_place_call};
-ghost use Rattle.c_blocks.specs.Ready.{Ready, part_length};
+ghost use Rattle.cascade_theory.proofs.Laws.{check-next};
 
-use super::parts::{no_samples, part_end};
-use c_layout::{fits, read, write};
-use lists::copy;
+use super::lent::Lent;
+use cascade::Cascade;
+use runs::{Answer, FilterRecord, Refusal};
 
-// A block of samples.
-pub fn cascade_block(
-    numbers: &mut [f64],
-    counts: &mut [usize],
-    input: &[f64],
-    output: &mut [f64],
-    clouded: &mut [usize],
-) -> u8
-    ensures { record { refusal = result; numbers = numbers.new; counts = counts.new; answers = output.new; clouded = clouded.new }
-        ≡ block_call cascade_kind numbers.old counts.old input.now output.old clouded.old }
-{
-    if clouded.len() != 1 {
-        return runs::BAD_CALL;
-    }
-    if !fits(numbers, counts) {
-        return runs::BAD_CALL;
-    }
-    let b = read(numbers, counts).block(input, output);
-    let refusal = b.refusal;
-    if refusal != 0 {
-        return refusal;
-    }
-    write(b.cascade, numbers, counts);
-    clouded[0] = b.clouded;
-    0
+// Its numbers, and its counts: the section count, the first-order flag and the cloud flag.
+#[derive(Drop)]
+pub struct LentCascade<'a> {
+    pub numbers: &'a mut [f64],
+    pub counts: &'a mut [usize],
 }
 
-// A part of a block in place, from a copy to its places.
-fn cascade_part(
-    numbers: &mut [f64],
-    counts: &mut [usize],
-    part: &mut [f64],
-    clouded: &mut [usize],
-) -> u8
-    requires { length part.old ≤ part_length }
-    ensures { record { refusal = result; numbers = numbers.new; counts = counts.new; answers = part.new; clouded = clouded.new }
-        ≡ block_in_place_call cascade_kind numbers.old counts.old part.old clouded.old }
-{
-    let n = part.len();
-    let mut input = no_samples();
-    copy(part, &mut input);
-    cascade_block(numbers, counts, &input[..n], part, clouded)
+impl LentCascade<'_> {
+    // The cascade that the slices hold. Inline, so that it is not put together in memory, which takes stack.
+    #[inline(always)]
+    fn read(&self) -> Option<Cascade>
+        ensures { option_map cascade_view result ≡ cascade_in self.now.numbers.now self.now.counts.now }
+    {
+        let numbers = &*self.numbers;
+        let counts = &*self.counts;
+        c_layout::cascade_in(numbers, counts)
+    }
+
+    // A cascade into the slices, which have its places.
+    fn write(&mut self, c: Cascade)
+        requires { cascade_places self.old.numbers.now self.old.counts.now ≡ true }
+        ensures same { (self.new.numbers.ghost_name ≡ self.old.numbers.ghost_name) × (self.new.counts.ghost_name ≡ self.old.counts.ghost_name) }
+        ensures numbers { self.new.numbers.now ≡ cascade_numbers (cascade_view c) }
+        ensures counts { self.new.counts.now ≡ cascade_counts (cascade_view c) }
+    {
+        let numbers = &mut *self.numbers;
+        let counts = &mut *self.counts;
+        c_layout::write(c, numbers, counts);
+    }
 }
 
-// The parts one after the other, over slices that an accepted block left.
-fn cascade_parts(
-    numbers: &mut [f64],
-    counts: &mut [usize],
-    buffer: &mut [f64],
-    clouded: &mut [usize],
-)
-    requires { Ready cascade_kind numbers.old counts.old clouded.old }
-    ensures { record { refusal = no_refusal; numbers = numbers.new; counts = counts.new; answers = buffer.new; clouded = clouded.new }
-        ≡ block_in_place_call cascade_kind numbers.old counts.old buffer.old clouded.old }
-{
-    let mut total: usize = 0;
-    let mut from: usize = 0;
-    while from < buffer.len() {
-        let to = part_end(from, buffer.len());
-        cascade_part(numbers, counts, &mut buffer[from..to], clouded);
-        total += clouded[0];
-        from = to;
-    }
-    clouded[0] = total;
-}
+impl Lent for LentCascade<'_> {
+    ghost Slices = { GName × GName };
 
-// A block in place: an empty block, which tests the slices and the record, and then the parts.
-pub fn cascade_block_in_place(
-    numbers: &mut [f64],
-    counts: &mut [usize],
-    buffer: &mut [f64],
-    clouded: &mut [usize],
-) -> u8
-    ensures { record { refusal = result; numbers = numbers.new; counts = counts.new; answers = buffer.new; clouded = clouded.new }
-        ≡ block_in_place_call cascade_kind numbers.old counts.old buffer.old clouded.old }
-{
-    let none: usize = 0;
-    let input = [0.0; 1];
-    let refusal = cascade_block(numbers, counts, &input[..none], buffer, clouded);
-    if refusal != 0 {
-        return refusal;
+    ghost slices = { λ s. (s.numbers.ghost_name, s.counts.ghost_name) };
+
+    ghost kind = { λ _. cascade_kind };
+
+    ghost numbers = { λ s. s.numbers.now };
+
+    ghost counts = { λ s. s.counts.now };
+
+    fn update(&mut self, x: f64) -> Answer {
+        let Some(cascade) = self.read() else {
+            return Answer::Refused(Refusal::BadCall);
+        };
+        let after = cascade.update(x);
+        if after.answer.accepted().is_ok() {
+            self.write(after.record);
+        }
+        after.answer
     }
-    cascade_parts(numbers, counts, buffer, clouded);
-    0
+
+    fn reset(&mut self) -> Result<(), Refusal> {
+        let Some(cascade) = self.read() else {
+            return Err(Refusal::BadCall);
+        };
+        let after = cascade.reset();
+        after.outcome?;
+        self.write(after.record);
+        Ok(())
+    }
+
+    fn block(&mut self, input: &[f64], output: &mut [f64]) -> Result<usize, Refusal> {
+        let Some(cascade) = self.read() else {
+            return Err(Refusal::BadCall);
+        };
+        let after = cascade.block(input, output);
+        let clouded = after.outcome?;
+        self.write(after.record);
+        Ok(clouded)
+    }
+
+    ghost numbered = { λ t h. cc };
+
+    ghost keeps = { λ t s x h. check-next binary64 s x h };
 }

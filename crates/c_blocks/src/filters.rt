@@ -1,102 +1,92 @@
-// Blocks of a lent tap record.
-ghost use Rattle.std.specs.Prelude.{◌≡◌, ◌≤◌, length};
-ghost use Rattle.runs.specs.Refusals.{no_refusal};
+// A tap record that a caller lends.
+ghost use Rattle.std.specs.Prelude.{◌≡◌, [], ◌∷◌, List, Float, get_or};
+ghost use Rattle.std.specs.Float.{binary64};
+ghost use Rattle.std.specs.Borrow.{Bor, GName};
+ghost use Rattle.limits.specs.Limits.{max_taps};
 ghost use Rattle.c_calls.specs.Kinds.{fir_kind};
-ghost use Rattle.c_calls.specs.Calls.{block_call, block_in_place_call};
-ghost use Rattle.c_blocks.specs.Ready.{Ready, part_length};
+ghost use Rattle.c_blocks.specs.Lent.{CountsIn};
+ghost use Rattle.fir_theory.proofs.Laws.{check-next};
 
-use super::parts::{no_samples, part_end};
+use super::lent::Lent;
 use c_layout::COUNTS;
-use lists::copy;
+use fir_step::Counts;
+use runs::{Answer, Refusal};
 
-// A block of samples.
-pub fn fir_block(
-    taps: &[f64],
-    samples: &mut [f64],
-    counts: &mut [usize],
-    input: &[f64],
-    output: &mut [f64],
-    clouded: &mut [usize],
-) -> u8
-    ensures { record { refusal = result; numbers = samples.new; counts = counts.new; answers = output.new; clouded = clouded.new }
-        ≡ block_call (fir_kind taps.now) samples.old counts.old input.now output.old clouded.old }
-{
-    if clouded.len() != 1 {
-        return runs::BAD_CALL;
-    }
-    if counts.len() != COUNTS {
-        return runs::BAD_CALL;
-    }
-    let b = fir_block::block(
-        taps, samples, counts[0], counts[1], counts[2], input, output,
-    );
-    let refusal = b.refusal;
-    if refusal != 0 {
-        return refusal;
-    }
-    counts[1] = b.held;
-    clouded[0] = b.clouded;
-    0
+// Its taps, its samples, and its counts: the length, the held count and the window code. No call changes the taps.
+#[derive(Drop)]
+pub struct LentTaps<'t, 'a> {
+    pub taps: &'t [f64],
+    pub samples: &'a mut [f64],
+    pub counts: &'a mut [usize],
 }
 
-// A part of a block in place, from a copy to its places.
-fn fir_part(
-    taps: &[f64],
-    samples: &mut [f64],
-    counts: &mut [usize],
-    part: &mut [f64],
-    clouded: &mut [usize],
-) -> u8
-    requires { length part.old ≤ part_length }
-    ensures { record { refusal = result; numbers = samples.new; counts = counts.new; answers = part.new; clouded = clouded.new }
-        ≡ block_in_place_call (fir_kind taps.now) samples.old counts.old part.old clouded.old }
-{
-    let n = part.len();
-    let mut input = no_samples();
-    copy(part, &mut input);
-    fir_block(taps, samples, counts, &input[..n], part, clouded)
+impl LentTaps<'_, '_> {
+    // The counts, where there are three.
+    fn read(&self) -> Option<Counts>
+        ensures { CountsIn result self.now.counts.now }
+    {
+        let counts = &*self.counts;
+        let &[length, held, window] = counts.as_array::<COUNTS>()?;
+        Some(Counts {
+            length,
+            held,
+            window,
+        })
+    }
+
+    // Counts into their three places, where the length and the window code stand already: they are not kept over a call, which would take
+    // stack.
+    fn write(&mut self, c: Counts)
+        requires { self.old.counts.now ≡ c.length ∷ get_or self.old.counts.now 1 0 ∷ c.window ∷ [] }
+        ensures same { (self.new.taps ≡ self.old.taps) × (self.new.samples.ghost_name ≡ self.old.samples.ghost_name) ×
+            (self.new.counts.ghost_name ≡ self.old.counts.ghost_name) }
+        ensures samples { self.new.samples.now ≡ self.old.samples.now }
+        ensures counts { self.new.counts.now ≡ c.length ∷ c.held ∷ c.window ∷ [] }
+    {
+        let counts = &mut *self.counts;
+        counts[1] = c.held;
+    }
 }
 
-// The parts one after the other, over slices that an accepted block left.
-fn fir_parts(
-    taps: &[f64],
-    samples: &mut [f64],
-    counts: &mut [usize],
-    buffer: &mut [f64],
-    clouded: &mut [usize],
-)
-    requires { Ready (fir_kind taps.now) samples.old counts.old clouded.old }
-    ensures { record { refusal = no_refusal; numbers = samples.new; counts = counts.new; answers = buffer.new; clouded = clouded.new }
-        ≡ block_in_place_call (fir_kind taps.now) samples.old counts.old buffer.old clouded.old }
-{
-    let mut total: usize = 0;
-    let mut from: usize = 0;
-    while from < buffer.len() {
-        let to = part_end(from, buffer.len());
-        fir_part(taps, samples, counts, &mut buffer[from..to], clouded);
-        total += clouded[0];
-        from = to;
-    }
-    clouded[0] = total;
-}
+impl Lent for LentTaps<'_, '_> {
+    ghost Slices = { Bor (List Float) × GName × GName };
 
-// A block in place: an empty block, which tests the slices and the record, and then the parts.
-pub fn fir_block_in_place(
-    taps: &[f64],
-    samples: &mut [f64],
-    counts: &mut [usize],
-    buffer: &mut [f64],
-    clouded: &mut [usize],
-) -> u8
-    ensures { record { refusal = result; numbers = samples.new; counts = counts.new; answers = buffer.new; clouded = clouded.new }
-        ≡ block_in_place_call (fir_kind taps.now) samples.old counts.old buffer.old clouded.old }
-{
-    let none: usize = 0;
-    let input = [0.0; 1];
-    let refusal = fir_block(taps, samples, counts, &input[..none], buffer, clouded);
-    if refusal != 0 {
-        return refusal;
+    ghost slices = { λ s. (s.taps, s.samples.ghost_name, s.counts.ghost_name) };
+
+    ghost kind = { λ t. fir_kind t.0.now };
+
+    ghost numbers = { λ s. s.samples.now };
+
+    ghost counts = { λ s. s.counts.now };
+
+    fn update(&mut self, x: f64) -> Answer {
+        let Some(mut counts) = self.read() else {
+            return Answer::Refused(Refusal::BadCall);
+        };
+        let answer = fir_step::update(self.taps, self.samples, &mut counts, x);
+        self.write(counts);
+        answer
     }
-    fir_parts(taps, samples, counts, buffer, clouded);
-    0
+
+    fn reset(&mut self) -> Result<(), Refusal> {
+        let Some(mut counts) = self.read() else {
+            return Err(Refusal::BadCall);
+        };
+        let outcome = fir_step::reset(self.taps, self.samples, &mut counts);
+        self.write(counts);
+        outcome
+    }
+
+    fn block(&mut self, input: &[f64], output: &mut [f64]) -> Result<usize, Refusal> {
+        let Some(mut counts) = self.read() else {
+            return Err(Refusal::BadCall);
+        };
+        let outcome = fir_block::block(self.taps, self.samples, &mut counts, input, output);
+        self.write(counts);
+        outcome
+    }
+
+    ghost numbered = { λ t h. cc };
+
+    ghost keeps = { λ t s x h. check-next max_taps s x h };
 }

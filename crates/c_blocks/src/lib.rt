@@ -1,9 +1,13 @@
-// Blocks over lent slices, from an input to an output or in place: what the C interface exports.
+// Calls of the C interface on a record that a caller lends in slices: one sample, a block from an input to an output, a block
+// in place, and a reset, for a cascade and for a tap record alike.
 #![tactic(auto)]
 
+mod calls;
 mod cascades;
 mod filters;
-mod parts;
+mod lent;
 
-pub use cascades::{cascade_block, cascade_block_in_place};
-pub use filters::{fir_block, fir_block_in_place};
+pub use calls::{block, block_in_place, reset, step};
+pub use cascades::LentCascade;
+pub use filters::LentTaps;
+pub use lent::Lent;

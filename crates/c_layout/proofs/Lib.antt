@@ -1,3 +1,3 @@
--- The proofs that belong to no one function. Places: lists of one, three, four and seven places, and of a cascade's. Laws: the tests of lengths and flags.
-pub mod Places
+-- The proofs that belong to no one function. Rows: a cascade's numbers in rows of a section each, and what an array's `map` gives. Laws: what slices hold.
+pub mod Rows
 pub mod Laws

@@ -1,5 +1,5 @@
 -- How a cascade stands in slices that a caller lends: its numbers and three counts.
-use Rattle.std.specs.Prelude.{ℕ, ◌+◌, ◌*◌, Bool, ◌&&◌, cond, List, [], ◌∷◌, ◌++◌, eqb, leb, length, get_or, Float}
+use Rattle.std.specs.Prelude.{ℕ, ◌+◌, ◌*◌, Bool, ◌&&◌, cond, Option, Some, None, List, [], ◌∷◌, ◌++◌, eqb, leb, length, get_or, Float}
 use Rattle.std.specs.Float.{nan}
 use Rattle.limits.specs.Limits.{max_sections}
 use Rattle.cascade_theory.specs.Section.{SectionRecord}
@@ -72,3 +72,7 @@ cascade_places numbers counts = eqb (length numbers) cascade_length && eqb (leng
 
 unfoldable pub cascade_fits : List Float → List ℕ → Bool
 cascade_fits numbers counts = cascade_places numbers counts && (leb (get_or counts 1 0) 1 && leb (get_or counts 2 0) 1)
+
+-- the cascade that slices hold: none where they cannot be one
+unfoldable pub cascade_in : List Float → List ℕ → Option CascadeRecord
+cascade_in numbers counts = cond (cascade_fits numbers counts) (Some (cascade_at numbers counts)) None

@@ -3,9 +3,8 @@ ghost use Rattle.std.specs.Prelude.{◌≡◌};
 ghost use Rattle.c_calls.specs.Kinds.{cascade_kind};
 ghost use Rattle.c_calls.specs.Calls.{step_call, block_call, block_in_place_call, reset_call};
 
-use super::answer::{put, single};
-use c_blocks::{cascade_block, cascade_block_in_place};
-use c_layout::{fits, read, write};
+use c_blocks::{LentCascade, block, block_in_place, reset, step};
+use runs::number_in;
 
 // One sample x.
 #[unsafe(no_mangle)]
@@ -19,21 +18,7 @@ pub extern "C" fn pulse_cascade_step(
     ensures { record { refusal = result; numbers = numbers.new; counts = counts.new; answers = answer.new; clouded = clouded.new }
         ≡ step_call cascade_kind numbers.old counts.old x answer.old clouded.old }
 {
-    if !single(answer, clouded) {
-        return runs::BAD_CALL;
-    }
-    if !fits(numbers, counts) {
-        return runs::BAD_CALL;
-    }
-    let u = read(numbers, counts).update(x);
-    let a = u.answer;
-    let refusal = runs::refusal_of(a);
-    if refusal != 0 {
-        return refusal;
-    }
-    write(u.cascade, numbers, counts);
-    put(a, answer, clouded);
-    0
+    number_in(step(&mut LentCascade { numbers, counts }, x, answer, clouded))
 }
 
 // A block of samples.
@@ -48,7 +33,7 @@ pub extern "C" fn pulse_cascade_block(
     ensures { record { refusal = result; numbers = numbers.new; counts = counts.new; answers = output.new; clouded = clouded.new }
         ≡ block_call cascade_kind numbers.old counts.old input.now output.old clouded.old }
 {
-    cascade_block(numbers, counts, input, output, clouded)
+    number_in(block(&mut LentCascade { numbers, counts }, input, output, clouded))
 }
 
 // A block in place.
@@ -62,7 +47,7 @@ pub extern "C" fn pulse_cascade_block_in_place(
     ensures { record { refusal = result; numbers = numbers.new; counts = counts.new; answers = buffer.new; clouded = clouded.new }
         ≡ block_in_place_call cascade_kind numbers.old counts.old buffer.old clouded.old }
 {
-    cascade_block_in_place(numbers, counts, buffer, clouded)
+    number_in(block_in_place(&mut LentCascade { numbers, counts }, buffer, clouded))
 }
 
 // A reset.
@@ -71,14 +56,5 @@ pub extern "C" fn pulse_cascade_reset(numbers: &mut [f64], counts: &mut [usize])
     ensures { record { refusal = result; numbers = numbers.new; counts = counts.new }
         ≡ reset_call cascade_kind numbers.old counts.old }
 {
-    if !fits(numbers, counts) {
-        return runs::BAD_CALL;
-    }
-    let w = read(numbers, counts).reset();
-    let refusal = w.refusal;
-    if refusal != 0 {
-        return refusal;
-    }
-    write(w.cascade, numbers, counts);
-    0
+    number_in(reset(&mut LentCascade { numbers, counts }))
 }

@@ -3,9 +3,8 @@ ghost use Rattle.std.specs.Prelude.{◌≡◌};
 ghost use Rattle.c_calls.specs.Kinds.{fir_kind};
 ghost use Rattle.c_calls.specs.Calls.{step_call, block_call, block_in_place_call, reset_call};
 
-use super::answer::{put, single};
-use c_blocks::{fir_block, fir_block_in_place};
-use c_layout::COUNTS;
+use c_blocks::{LentTaps, block, block_in_place, reset, step};
+use runs::number_in;
 
 // One sample x.
 #[unsafe(no_mangle)]
@@ -20,21 +19,12 @@ pub extern "C" fn pulse_fir_step(
     ensures { record { refusal = result; numbers = samples.new; counts = counts.new; answers = answer.new; clouded = clouded.new }
         ≡ step_call (fir_kind taps.now) samples.old counts.old x answer.old clouded.old }
 {
-    if !single(answer, clouded) {
-        return runs::BAD_CALL;
-    }
-    if counts.len() != COUNTS {
-        return runs::BAD_CALL;
-    }
-    let s = fir_step::update(taps, samples, counts[0], counts[1], counts[2], x);
-    let a = s.answer;
-    let refusal = runs::refusal_of(a);
-    if refusal != 0 {
-        return refusal;
-    }
-    counts[1] = s.held;
-    put(a, answer, clouded);
-    0
+    let mut lent = LentTaps {
+        taps,
+        samples,
+        counts,
+    };
+    number_in(step(&mut lent, x, answer, clouded))
 }
 
 // A block of samples.
@@ -50,7 +40,12 @@ pub extern "C" fn pulse_fir_block(
     ensures { record { refusal = result; numbers = samples.new; counts = counts.new; answers = output.new; clouded = clouded.new }
         ≡ block_call (fir_kind taps.now) samples.old counts.old input.now output.old clouded.old }
 {
-    fir_block(taps, samples, counts, input, output, clouded)
+    let mut lent = LentTaps {
+        taps,
+        samples,
+        counts,
+    };
+    number_in(block(&mut lent, input, output, clouded))
 }
 
 // A block in place.
@@ -65,7 +60,12 @@ pub extern "C" fn pulse_fir_block_in_place(
     ensures { record { refusal = result; numbers = samples.new; counts = counts.new; answers = buffer.new; clouded = clouded.new }
         ≡ block_in_place_call (fir_kind taps.now) samples.old counts.old buffer.old clouded.old }
 {
-    fir_block_in_place(taps, samples, counts, buffer, clouded)
+    let mut lent = LentTaps {
+        taps,
+        samples,
+        counts,
+    };
+    number_in(block_in_place(&mut lent, buffer, clouded))
 }
 
 // A reset.
@@ -74,14 +74,10 @@ pub extern "C" fn pulse_fir_reset(taps: &[f64], samples: &mut [f64], counts: &mu
     ensures { record { refusal = result; numbers = samples.new; counts = counts.new }
         ≡ reset_call (fir_kind taps.now) samples.old counts.old }
 {
-    if counts.len() != COUNTS {
-        return runs::BAD_CALL;
-    }
-    let w = fir_step::reset(taps, samples, counts[0], counts[1], counts[2]);
-    let refusal = w.refusal;
-    if refusal != 0 {
-        return refusal;
-    }
-    counts[1] = w.held;
-    0
+    let mut lent = LentTaps {
+        taps,
+        samples,
+        counts,
+    };
+    number_in(reset(&mut lent))
 }

@@ -1,5 +1,6 @@
 // 02's Q-3: the raw forms of the designs of both kinds and of ready-made taps. They take any coefficients, finite or not.
 ghost use Rattle.std.specs.Prelude.{◌≡◌};
+ghost use Rattle.runs.specs.View.{refusal_in};
 ghost use Rattle.fir_theory.specs.Fir.{from_coeffs};
 ghost use Rattle.limits.specs.Limits.{max_taps};
 ghost use Rattle.design_cascade.specs.LowPass.{butterworth_lp, butterworth_hp, chebyshev1_lp, chebyshev2_lp};
@@ -7,13 +8,13 @@ ghost use Rattle.design_cascade.specs.BandPass.{butterworth_bp};
 ghost use Rattle.design_fir.specs.Fir.{fir_lp};
 ghost use Rattle.c_designs.specs.Designs.{design_call, made_call, fir_call};
 
-use c_designs::{LAST_WINDOW, hand_out, hand_out_taps, window_of};
+use c_designs::{hand_out, hand_out_coeffs_raw, hand_out_taps};
 use design_cascade::{
     design_butterworth_bp_raw, design_butterworth_hp_raw, design_butterworth_lp_raw,
     design_chebyshev1_lp_raw, design_chebyshev2_lp_raw,
 };
-use design_fir::design_fir_lp_raw;
-use fir::TapRecord;
+use design_fir::{WindowType, design_fir_lp_raw};
+use runs::{Refusal, number_in};
 
 // A Butterworth low pass.
 #[unsafe(no_mangle)]
@@ -27,11 +28,8 @@ pub extern "C" fn pulse_design_butterworth_lp_raw(
     ensures { record { refusal = result; numbers = numbers.new; counts = counts.new }
         ≡ design_call (butterworth_lp order cutoff sample_rate) numbers.old counts.old }
 {
-    hand_out(
-        design_butterworth_lp_raw(order, cutoff, sample_rate),
-        numbers,
-        counts,
-    )
+    let design = design_butterworth_lp_raw(order, cutoff, sample_rate);
+    number_in(hand_out(design, numbers, counts))
 }
 
 // A Butterworth high pass.
@@ -46,11 +44,8 @@ pub extern "C" fn pulse_design_butterworth_hp_raw(
     ensures { record { refusal = result; numbers = numbers.new; counts = counts.new }
         ≡ design_call (butterworth_hp order cutoff sample_rate) numbers.old counts.old }
 {
-    hand_out(
-        design_butterworth_hp_raw(order, cutoff, sample_rate),
-        numbers,
-        counts,
-    )
+    let design = design_butterworth_hp_raw(order, cutoff, sample_rate);
+    number_in(hand_out(design, numbers, counts))
 }
 
 // A Butterworth band pass.
@@ -66,11 +61,8 @@ pub extern "C" fn pulse_design_butterworth_bp_raw(
     ensures { record { refusal = result; numbers = numbers.new; counts = counts.new }
         ≡ design_call (butterworth_bp order low high sample_rate) numbers.old counts.old }
 {
-    hand_out(
-        design_butterworth_bp_raw(order, low, high, sample_rate),
-        numbers,
-        counts,
-    )
+    let design = design_butterworth_bp_raw(order, low, high, sample_rate);
+    number_in(hand_out(design, numbers, counts))
 }
 
 // A Chebyshev I low pass.
@@ -86,11 +78,8 @@ pub extern "C" fn pulse_design_chebyshev1_lp_raw(
     ensures { record { refusal = result; numbers = numbers.new; counts = counts.new }
         ≡ design_call (chebyshev1_lp order cutoff ripple_db sample_rate) numbers.old counts.old }
 {
-    hand_out(
-        design_chebyshev1_lp_raw(order, cutoff, ripple_db, sample_rate),
-        numbers,
-        counts,
-    )
+    let design = design_chebyshev1_lp_raw(order, cutoff, ripple_db, sample_rate);
+    number_in(hand_out(design, numbers, counts))
 }
 
 // A Chebyshev II low pass.
@@ -106,11 +95,8 @@ pub extern "C" fn pulse_design_chebyshev2_lp_raw(
     ensures { record { refusal = result; numbers = numbers.new; counts = counts.new }
         ≡ design_call (chebyshev2_lp order cutoff stopband_db sample_rate) numbers.old counts.old }
 {
-    hand_out(
-        design_chebyshev2_lp_raw(order, cutoff, stopband_db, sample_rate),
-        numbers,
-        counts,
-    )
+    let design = design_chebyshev2_lp_raw(order, cutoff, stopband_db, sample_rate);
+    number_in(hand_out(design, numbers, counts))
 }
 
 // A FIR low pass, its cutoff a share of the rate.
@@ -126,15 +112,24 @@ pub extern "C" fn pulse_design_fir_lp_raw(
     ensures { record { refusal = result; taps = taps.new; samples = samples.new; counts = counts.new }
         ≡ fir_call taps.old samples.old counts.old (fir_lp n cutoff) window }
 {
-    if window > LAST_WINDOW {
-        return runs::BAD_CALL;
-    }
-    hand_out_taps(
-        design_fir_lp_raw(n, cutoff, window_of(window)),
-        taps,
-        samples,
-        counts,
-    )
+    number_in(fir_lp(n, cutoff, window, taps, samples, counts))
+}
+
+// A function of its own for the `?`: a closure behind `and_then` takes stack for each record that it hands on. Each form has one: one
+// for both would have a contract over whatever design it is given, and be no plainer.
+fn fir_lp(
+    n: usize,
+    cutoff: f64,
+    window: usize,
+    taps: &mut [f64],
+    samples: &mut [f64],
+    counts: &mut [usize],
+) -> Result<(), Refusal>
+    ensures { record { refusal = refusal_in result; taps = taps.new; samples = samples.new; counts = counts.new }
+        ≡ fir_call taps.old samples.old counts.old (fir_lp n cutoff) window }
+{
+    let window = WindowType::try_from(window)?;
+    hand_out_taps(design_fir_lp_raw(n, cutoff, window), taps, samples, counts)
 }
 
 // Ready-made taps.
@@ -148,5 +143,5 @@ pub extern "C" fn pulse_fir_from_coeffs_raw(
     ensures { record { refusal = result; taps = taps.new; samples = samples.new; counts = counts.new }
         ≡ made_call taps.old samples.old counts.old (from_coeffs max_taps coeffs.now) }
 {
-    hand_out_taps(TapRecord::from_coeffs_raw(coeffs), taps, samples, counts)
+    number_in(hand_out_coeffs_raw(coeffs, taps, samples, counts))
 }

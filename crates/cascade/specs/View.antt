@@ -2,13 +2,13 @@
 use Rattle.std.specs.Prelude.{List, map, Float}
 use Rattle.std.specs.Float.{binary64}
 use Rattle.runs.specs.Runs.{Step, Reset, Block, Fresh}
-use Rattle.runs.specs.View.{answer_view}
+use Rattle.runs.specs.View as Runs
+use Rattle.runs.specs.declared.results.UpdateResult.{UpdateResult}
+use Rattle.runs.specs.declared.results.ResetResult.{ResetResult}
+use Rattle.runs.specs.declared.results.BlockResult.{BlockResult}
 use Rattle.sections.specs.View.{section_view, first_view}
 use Rattle.cascade_theory.specs.Cascade.{CascadeRecord, cascade}
 use Rattle.cascade.specs.declared.Cascade.{Cascade}
-use Rattle.cascade.specs.declared.UpdateResult.{UpdateResult}
-use Rattle.cascade.specs.declared.ResetResult.{ResetResult}
-use Rattle.cascade.specs.declared.BlockResult.{BlockResult}
 
 abbrev pub cascade_view : Cascade → CascadeRecord
 cascade_view c = record {
@@ -19,15 +19,15 @@ cascade_view c = record {
   clouded = c.clouded;
 }
 
-abbrev pub updated_view : UpdateResult → Step CascadeRecord
-updated_view r = record { answer = answer_view r.answer; state = cascade_view r.cascade }
+abbrev pub updated_view : UpdateResult Cascade → Step CascadeRecord
+updated_view = Runs.updated_view cascade_view
 
-abbrev pub reset_view : ResetResult → Reset CascadeRecord
-reset_view r = record { refusal = r.refusal; state = cascade_view r.cascade }
+abbrev pub reset_view : ResetResult Cascade → Reset CascadeRecord
+reset_view = Runs.reset_view cascade_view
 
 -- with the output after it
-abbrev pub block_view : BlockResult → List Float → Block CascadeRecord
-block_view r output = record { refusal = r.refusal; clouded = r.clouded; state = cascade_view r.cascade; output = output }
+abbrev pub block_view : BlockResult Cascade → List Float → Block CascadeRecord
+block_view = Runs.block_view cascade_view
 
 -- a fresh cascade at f64
 abbrev pub FreshCascade : CascadeRecord → Type 0

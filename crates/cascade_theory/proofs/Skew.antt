@@ -1,48 +1,20 @@
 -- Before every turn a line is four sections, as they are one sample after the other, that have taken three samples more, each as far as it goes:
 -- so what comes out of it is what they answer.
-use mathlib.Core.Path.{◌≡◌, refl, ap, ◌∙◌}
-use mathlib.Core.Bool.{false, true}
+use mathlib.Core.Path.{◌≡◌, refl, sym, ap, ◌∙◌}
+use mathlib.Core.Bool.{Bool, false, true, ◌&&◌, cond}
 use mathlib.Core.List.{List}
 use Prim.Native.Nat.{ℕ, ◌+◌, ◌<◌, ◌≤◌}
 use native.Mathlib.Omega.{arith}
 use lib.ListN.{length, get_or, set}
 use lib.Ieee.{Float, Format, nan}
-use borrow.Author.Tests.{le-leb, le-ltb}
-use Rattle.runs.specs.Runs.{Block, block}
-use Rattle.runs.proofs.Laws.{Running, run-start, run-turn, run-done}
-use Rattle.cascade_theory.specs.Section.{SectionRecord}
-use Rattle.cascade_theory.specs.Skew.{FourRecord, LineRecord, DrainedRecord, four_out, four_next, four, filled, line_out, advanced, drained, ran}
-use Rattle.cascade_theory.proofs.Turns.{Turned}
-
--- what a section makes of a number, and of itself
-abbrev Went : Format → SectionRecord → Float → Float → SectionRecord → Type 0
-Went f = Turned f true
+use lib.Dec.{leb}
+use borrow.Author.Tests.{le-leb, le-ltb, leb-true}
+use Rattle.lists.proofs.Tests.{both}
+use Rattle.runs.specs.Runs.{Block, answers, after, written, block}
+use Rattle.runs.proofs.Laws.{Running, run-turn, run-done}
+use Rattle.cascade_theory.specs.Skew.{FourRecord, LineRecord, DrainedRecord, RanRecord, four_out, four_next, four, filled, line_out, advanced, drained, ran}
 
 module _ (f : Format) where
-  -- ---- numbers through sections, by name
-
-  pub filled_is : {s0 s1 s2 s3 a0 a1 a2 b0 b1 c0 : SectionRecord} {x0 x1 x2 u0 u1 u2 v0 v1 w0 : Float} → Went f s0 x0 u0 a0 → Went f a0 x1 u1 a1
-      → Went f a1 x2 u2 a2 → Went f s1 u0 v0 b0 → Went f b0 u1 v1 b1
-      → Went f s2 v0 w0 c0 → record { four = record { s0 = a2; s1 = b1; s2 = c0; s3 = s3 }; y0 = u2; y1 = v1; y2 = w0 }
-      ≡ filled f (record { s0 = s0; s1 = s1; s2 = s2; s3 = s3 }) x0 x1 x2
-  unfolding filled
-  filled_is p0 p1 p2 q0 q1 r = rw (p2.out, p2.next, q1.out, q1.next, r.out, r.next, p1.out, p1.next, q0.out, q0.next, p0.out, p0.next)
-
-  pub advanced-is : {s0 s1 s2 s3 a b c d : SectionRecord} {x y0 y1 y2 u v w z : Float} → Went f s0 x u a → Went f s1 y0 v b → Went f s2 y1 w c
-      → Went f s3 y2 z d
-      → record { four = record { s0 = a; s1 = b; s2 = c; s3 = d }; y0 = u; y1 = v; y2 = w }
-      ≡ advanced f (record { four = record { s0 = s0; s1 = s1; s2 = s2; s3 = s3 }; y0 = y0; y1 = y1; y2 = y2 }) x
-  unfolding advanced
-  advanced-is p q r s = rw (p.out, p.next, q.out, q.next, r.out, r.next, s.next)
-
-  pub drained-is : {s0 s1 s2 s3 b c0 c1 d0 d1 d2 : SectionRecord} {y0 y1 y2 u v0 v1 w0 w1 w2 : Float} → Went f s1 y0 u b → Went f s2 y1 v0 c0
-      → Went f c0 u v1 c1 → Went f s3 y2 w0 d0 → Went f d0 v0 w1 d1
-      → Went f d1 v1 w2 d2
-      → record { four = record { s0 = s0; s1 = b; s2 = c1; s3 = d2 }; y0 = w0; y1 = w1; y2 = w2 }
-      ≡ drained f (record { four = record { s0 = s0; s1 = s1; s2 = s2; s3 = s3 }; y0 = y0; y1 = y1; y2 = y2 })
-  unfolding drained
-  drained-is p q0 q1 r0 r1 r2 = rw (r2.out, r2.next, r1.out, r1.next, r0.out, r0.next, q1.out, q1.next, q0.out, q0.next, p.out, p.next)
-
   -- ---- a line of three samples: the number that comes out of it, the line with one sample more, and the last three numbers
 
   out-filled : (c : FourRecord) (x0 x1 x2 : Float) → line_out f (filled f c x0 x1 x2) ≡ four_out f c x0
@@ -78,10 +50,6 @@ module _ (f : Format) where
         ≡ four_next f c (get_or input i nan)
         → Running (four f) c₀ input output₀ c output 0 i → Running (four f) c₀ input output₀ c' (set output i y) 0 (i + 1)
     turn h ey ec = run-turn (four f) (λ c x e. e) c₀ input output₀ {b = false} h ey refl ec refl
-
-    pub line-start : {l : LineRecord} → length input ≤ length output₀ → l ≡ filled f c₀ (get_or input 0 nan) (get_or input 1 nan) (get_or input 2 nan)
-        → Behind c₀ input output₀ l output₀ 0
-    line-start h e = record { sections = c₀; run = run-start (four f) (λ c x e. e) c₀ input output₀ h refl; held = e }
 
     pub line-turn : {l l' : LineRecord} {output : List Float} {i : ℕ} {y : Float} → i < length input → y ≡ line_out f l → l'
         ≡ advanced f l (get_or input (i + 3) nan) → Behind c₀ input output₀ l output i
@@ -119,3 +87,33 @@ module _ (f : Format) where
         let t = turn {c' = d.four} {y = d.y2} (omega arith) (rw two (ap (λ (w : DrainedRecord). w.y2) z)) (rw two (ap (λ (w : DrainedRecord). w.four) z))
         s in
         run_is (omega arith) k (rw two at (run-done (four f) (λ c x e. e) c₀ input output₀ (omega arith) refl k t))
+
+  -- ---- whether a run was made: of three samples or more, with places for their answers; one that was not left the output
+  module _ (c : FourRecord) (input output : List Float) where
+    asked : Bool
+    asked = leb 3 (length input) && leb (length input) (length output)
+
+    ran-done : (ran f c input output).done ≡ asked
+    unfolding ran asked
+    ran-done = go asked
+      where
+        go : (b : Bool)
+            → (cond {A = RanRecord} b (record { four = after (four f) c input; done = true; output = written (answers (four f) c input) output })
+            (record { four = c; done = false; output = output })).done
+            ≡ b
+        go true = refl
+        go false = refl
+
+    was-asked : {b : Bool} {c' : FourRecord} {output' : List Float} → record { four = c'; done = b; output = output' } ≡ ran f c input output → asked ≡ b
+    was-asked e = sym ran-done ∙ sym (ap (λ (r : RanRecord). r.done) e)
+
+    pub ran-made : {c' : FourRecord} {output' : List Float} → record { four = c'; done = true; output = output' } ≡ ran f c input output
+        → (3 ≤ length input) × (length input ≤ length output)
+    unfolding asked
+    ran-made e =
+        let h = both (leb 3 (length input)) (leb (length input) (length output)) (was-asked e) in
+        (leb-true 3 (length input) h.0, leb-true (length input) (length output) h.1)
+
+    pub ran-left : {c' : FourRecord} {output' : List Float} → record { four = c'; done = false; output = output' } ≡ ran f c input output → output' ≡ output
+    unfolding ran asked
+    ran-left e = ap (λ (r : RanRecord). r.output) e ∙ rw (was-asked e)

@@ -16,6 +16,7 @@ use Rattle.cascade_theory.specs.FirstOrder.{FirstOrderRecord}
 use Rattle.cascade_theory.specs.Skew.{FourRecord, RanRecord, four_out, four_next, four, ran}
 use Rattle.cascade_theory.specs.Cascade.{CascadeRecord, check_cascade, clouding, value, moved, mark, next, cascade}
 use Rattle.cascade_theory.specs.Skewed.{listed, Skewable}
+use Rattle.cascade_theory.proofs.Skew.{ran-made}
 
 -- a cascade of these sections alone, with this unused first-order part
 abbrev of_four : FirstOrderRecord → FourRecord → CascadeRecord
@@ -59,10 +60,14 @@ module _ (f : Format) (p : FirstOrderRecord) where
         none-clouded c input,
       )
 
--- whatever record has these sections
-pub block-skewed : (f : Format) (c : FourRecord) {ss : List SectionRecord} {n : ℕ} {p : FirstOrderRecord} {b d : Bool} (input output : List Float)
-    {r : RanRecord} → listed c ≡ ss
-    → Skewable (record { sections = ss; count = n; first = p; has_first = b; clouded = d }) input → length input ≤ length output → r ≡ ran f c input output
-    → record { refusal = 0; clouded = 0; state = record { sections = listed r.four; count = n; first = p; has_first = b; clouded = d }; output = r.output }
+-- whatever record has these sections: a run that was made had samples enough and places for their answers
+pub block-skewed : (f : Format) (c : FourRecord) (input output : List Float) {c' : FourRecord} {ss ss' : List SectionRecord} {n : ℕ} {p : FirstOrderRecord}
+    {b d : Bool} {output' : List Float} → listed c ≡ ss → listed c' ≡ ss'
+    → (3 ≤ length input → Skewable (record { sections = ss; count = n; first = p; has_first = b; clouded = d }) input)
+    → record { four = c'; done = true; output = output' } ≡ ran f c input output
+    → record { refusal = 0; clouded = 0; state = record { sections = ss'; count = n; first = p; has_first = b; clouded = d }; output = output' }
     ≡ block (cascade f) (record { sections = ss; count = n; first = p; has_first = b; clouded = d }) input output
-block-skewed f c {p = p} input output l s k e = rw (← l, s.four, s.alone, s.clear) (block-four f p c input output s.enough s.finite k e)
+block-skewed f c input output {p = p} l l' skewable e =
+    let h = ran-made f c input output e in
+    let s = skewable h.0 in
+    rw (← l, ← l', s.four, s.alone, s.clear) (block-four f p c input output s.enough s.finite h.1 e)

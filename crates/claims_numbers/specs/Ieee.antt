@@ -1,5 +1,5 @@
 -- Demand 2's claim about IEEE 754, over the definitions of the crate `ieee`. `add`, `sub`, `mul` and `div` are what the language's own operators are defined
--- to do at each format: src/operators.rt and src/operators_f32.rt have the claim of the operators. `sqrt_of` is what `ieee::sqrt` returns.
+-- to do at each format: `Ieee754` of src/operators.rt has the claim of the operators. `sqrt_of` is what `ieee::sqrt` returns.
 use Rattle.std.specs.Prelude.{◌≡◌, Bool, ℕ, ◌*◌, ◌≤◌, ◌<◌, Float}
 use Rattle.std.specs.Float.{inf, Format}
 use Rattle.std.specs.Float.Ieee.{add, sub, mul, div}

@@ -1,5 +1,5 @@
 // What is claimed of numbers. No program calls these functions: they stand for their contracts, so that the check names each
-// claim as proved. Most do nothing; those of operators.rt and operators_f32.rt compute, since their claims are about operators.
+// claim as proved. Most do nothing; those of `Ieee754` compute, since their claims are about operators.
 #![tactic(auto)]
 
 mod operators;
@@ -11,8 +11,7 @@ ghost use Rattle.claims_numbers.specs.Exact.{ExactValues};
 ghost use Rattle.claims_numbers.specs.Elementary.{NearestIsNearest, LnSplits, constants_of};
 ghost use Rattle.claims_numbers.specs.Decimals.{DecimalsAreNearest};
 
-pub use operators::{difference, product, quotient, sum};
-pub use operators_f32::{difference_f32, product_f32, quotient_f32, sum_f32};
+pub use operators::Ieee754;
 
 // Demand 2: "Arithmetic and square root meet IEEE 754 by proof."
 pub fn arithmetic_meets_ieee_754()

@@ -1,27 +1,47 @@
-// The language's own operators at f64 meet IEEE 754, for all operands.
-ghost use Rattle.std.specs.Float.{binary64};
+// The language's own operators meet IEEE 754 at each of its formats, for all operands: the claims, and f64.
+ghost use Rattle.std.specs.Prelude.{Float};
+ghost use Rattle.std.specs.Float.{Format, binary64};
 ghost use Rattle.ieee.specs.Arithmetic.{Sum, Difference, Product, Quotient};
 
-pub fn sum(x: f64, y: f64) -> f64
-    ensures { Sum binary64 x y result }
-{
-    x + y
+// A type of floats, the operands and results of its operators.
+pub trait Ieee754 {
+    ghost format: { Format };
+
+    // The value of a number of the type.
+    ghost number: { Self → Float };
+
+    fn sum(self, y: Self) -> Self
+        ensures { Sum format (number self) (number y) (number result) };
+
+    fn difference(self, y: Self) -> Self
+        ensures { Difference format (number self) (number y) (number result) };
+
+    fn product(self, y: Self) -> Self
+        ensures { Product format (number self) (number y) (number result) };
+
+    fn quotient(self, y: Self) -> Self
+        ensures { Quotient format (number self) (number y) (number result) };
 }
 
-pub fn difference(x: f64, y: f64) -> f64
-    ensures { Difference binary64 x y result }
-{
-    x - y
-}
+#[tactic(auto, using(ieee::proofs::Arithmetic::correct_rules))]
+impl Ieee754 for f64 {
+    ghost format = { binary64 };
 
-pub fn product(x: f64, y: f64) -> f64
-    ensures { Product binary64 x y result }
-{
-    x * y
-}
+    ghost number = { λ x. x };
 
-pub fn quotient(x: f64, y: f64) -> f64
-    ensures { Quotient binary64 x y result }
-{
-    x / y
+    fn sum(self, y: f64) -> f64 {
+        self + y
+    }
+
+    fn difference(self, y: f64) -> f64 {
+        self - y
+    }
+
+    fn product(self, y: f64) -> f64 {
+        self * y
+    }
+
+    fn quotient(self, y: f64) -> f64 {
+        self / y
+    }
 }

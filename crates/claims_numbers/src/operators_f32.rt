@@ -1,27 +1,27 @@
-// The language's own operators at f32 meet IEEE 754, for all operands.
+// The claims of operators.rt at f32.
 ghost use Rattle.std.specs.Float.{binary32};
-ghost use Rattle.ieee.specs.Arithmetic.{Sum, Difference, Product, Quotient};
 
-pub fn sum_f32(x: f32, y: f32) -> f32
-    ensures { Sum binary32 x y result }
-{
-    x + y
-}
+use super::operators::Ieee754;
 
-pub fn difference_f32(x: f32, y: f32) -> f32
-    ensures { Difference binary32 x y result }
-{
-    x - y
-}
+#[tactic(auto, using(ieee::proofs::Arithmetic::correct_rules))]
+impl Ieee754 for f32 {
+    ghost format = { binary32 };
 
-pub fn product_f32(x: f32, y: f32) -> f32
-    ensures { Product binary32 x y result }
-{
-    x * y
-}
+    ghost number = { λ x. x };
 
-pub fn quotient_f32(x: f32, y: f32) -> f32
-    ensures { Quotient binary32 x y result }
-{
-    x / y
+    fn sum(self, y: f32) -> f32 {
+        self + y
+    }
+
+    fn difference(self, y: f32) -> f32 {
+        self - y
+    }
+
+    fn product(self, y: f32) -> f32 {
+        self * y
+    }
+
+    fn quotient(self, y: f32) -> f32 {
+        self / y
+    }
 }

@@ -1,7 +1,7 @@
--- The code's type, read field by field.
+-- What the code returns, read as the record of these definitions.
 use Rattle.sections.specs.View.{section_view}
+use Rattle.sections.specs.declared.section.Section.{Section}
 use Rattle.design_bandpass.specs.BandPass.{SectionPairRecord}
-use Rattle.design_bandpass.specs.declared.SectionPair.{SectionPair}
 
-abbrev pub pair_view : SectionPair → SectionPairRecord
-pair_view p = record { bq1 = section_view p.bq1; bq2 = section_view p.bq2 }
+abbrev pub pair_view : (Section × Section) → SectionPairRecord
+pair_view p = record { bq1 = section_view p.0; bq2 = section_view p.1 }

@@ -9,14 +9,8 @@ ghost use Rattle.design_bandpass.specs.View.{pair_view};
 
 use sections::Section;
 
-// Two sections.
-#[derive(Clone, Copy)]
-pub struct SectionPair {
-    pub bq1: Section,
-    pub bq2: Section,
-}
-
 // The band-pass section of two poles by their sum and product.
+#[tactic(auto, unfolding(crate::specs::BandPass::band_biquad))]
 fn bp_biquad_from_sum_and_product(sum: f64, product: f64, bw: f64) -> Section
     ensures { section_view result ≡ band_biquad sum product bw }
 {
@@ -27,6 +21,7 @@ fn bp_biquad_from_sum_and_product(sum: f64, product: f64, bw: f64) -> Section
 }
 
 // The band-pass section of the pole pair σ ± jω.
+#[tactic(auto, unfolding(crate::specs::BandPass::bp_biquad))]
 pub fn bp_biquad_from_bp_pole_pair(sigma: f64, omega_im: f64, bw: f64) -> Section
     ensures { section_view result ≡ bp_biquad sigma omega_im bw }
 {
@@ -34,6 +29,7 @@ pub fn bp_biquad_from_bp_pole_pair(sigma: f64, omega_im: f64, bw: f64) -> Sectio
 }
 
 // The imaginary part of the root of a complex number, from its own imaginary part and the root's real part.
+#[tactic(auto, unfolding(crate::specs::BandPass::imaginary_root))]
 fn imaginary_root(d_im: f64, d_sqrt_re: f64) -> f64
     ensures { result ≡ imaginary_root d_im d_sqrt_re }
 {
@@ -45,7 +41,13 @@ fn imaginary_root(d_im: f64, d_sqrt_re: f64) -> f64
 }
 
 // The two band-pass sections of the low-pass prototype's pole pair σ ± jω.
-pub fn bp_biquads_from_lp_pole(sigma: f64, omega_im: f64, bw: f64, omega0_sq: f64) -> SectionPair
+#[tactic(auto, unfolding(crate::specs::BandPass::bp_pair))]
+pub fn bp_biquads_from_lp_pole(
+    sigma: f64,
+    omega_im: f64,
+    bw: f64,
+    omega0_sq: f64,
+) -> (Section, Section)
     ensures { pair_view result ≡ bp_pair sigma omega_im bw omega0_sq }
 {
     let half_bw = bw * 0.5;
@@ -56,13 +58,14 @@ pub fn bp_biquads_from_lp_pole(sigma: f64, omega_im: f64, bw: f64, omega0_sq: f6
     let d_mag = ieee::sqrt(d_re * d_re + d_im * d_im);
     let d_sqrt_re = ieee::sqrt((d_mag + d_re) * 0.5);
     let d_sqrt_im = imaginary_root(d_im, d_sqrt_re);
-    SectionPair {
-        bq1: bp_biquad_from_bp_pole_pair(p + d_sqrt_re, q + d_sqrt_im, bw),
-        bq2: bp_biquad_from_bp_pole_pair(p - d_sqrt_re, q - d_sqrt_im, bw),
-    }
+    (
+        bp_biquad_from_bp_pole_pair(p + d_sqrt_re, q + d_sqrt_im, bw),
+        bp_biquad_from_bp_pole_pair(p - d_sqrt_re, q - d_sqrt_im, bw),
+    )
 }
 
 // The band-pass section of the low-pass prototype's real pole.
+#[tactic(auto, unfolding(crate::specs::BandPass::bp_real))]
 pub fn bp_biquad_from_lp_real_pole(bw: f64, omega0_sq: f64) -> Section
     ensures { section_view result ≡ bp_real bw omega0_sq }
 {

@@ -81,15 +81,15 @@ pair-clear : (p : Prototype) (n m : ℕ) → Clear (pair_of p n m)
 unfolding lp_pair hp_pair cheb1_pair cheb2_pair lp_biquad hp_biquad cheb1_biquad cheb2_biquad
 pair-clear (ButterworthLow k) n m = refl
 pair-clear (ButterworthHigh k) n m = refl
-pair-clear (ChebyshevI sinh_a cosh_a k) n m = refl
-pair-clear (ChebyshevII sinh_a cosh_a k) n m = refl
+pair-clear (ChebyshevI ellipse k) n m = refl
+pair-clear (ChebyshevII ellipse k) n m = refl
 
 real-part-clear : (p : Prototype) → cleared_first (real_part p) ≡ real_part p
 unfolding lp_first hp_first cheb_first
 real-part-clear (ButterworthLow k) = refl
 real-part-clear (ButterworthHigh k) = refl
-real-part-clear (ChebyshevI sinh_a cosh_a k) = refl
-real-part-clear (ChebyshevII sinh_a cosh_a k) = refl
+real-part-clear (ChebyshevI ellipse k) = refl
+real-part-clear (ChebyshevII ellipse k) = refl
 
 first-clear : (p : Prototype) (n : ℕ) → cleared_first (first_of p n) ≡ first_of p n
 unfolding first_of

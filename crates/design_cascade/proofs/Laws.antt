@@ -1,14 +1,17 @@
--- What a design shows where it returns.
-use mathlib.Core.Path.{◌≡◌, ◌∙◌, sym, ap}
-use Prim.Native.Nat.{ℕ}
-use borrow.Author.Tests.{eq-eqb, ne_eqb}
-use Rattle.cascade_theory.specs.Cascade.{CascadeRecord}
-use Rattle.design_cascade.specs.Design.{CascadeDesignRecord, refused_design, accepted, unless_refused}
+-- What a default form shows where it returns.
+use mathlib.Core.Path.{◌≡◌, refl}
+use Rattle.std.specs.Prelude.{Result}
+use Rattle.runs.specs.View.{default_of}
+use Rattle.runs.specs.declared.refusal.Refusal.{Refusal}
+use Rattle.runs.proofs.Default.{default-viewed}
+use Rattle.cascade_theory.specs.Coefficients.{finite_coefficients}
+use Rattle.cascade.specs.View.{cascade_view}
+use Rattle.cascade.specs.declared.Cascade.{Cascade}
+use Rattle.design_cascade.specs.Design.{CascadeDesignRecord, refused_design, cascade_by_default}
+use Rattle.design_cascade.specs.View.{design_view}
 
--- the code's checks drew r, which the definition's checks draw as v; the design d is refused, or made of the cascade a
-module _ {d : CascadeDesignRecord} {r v : ℕ} (drawn : r ≡ v) where
-  pub is-refused : (c : CascadeRecord) → (r ≡ 0 → ⊥) → d ≡ refused_design r → d ≡ unless_refused v c
-  is-refused c some e = rw (ne_eqb v 0 (λ z. some (drawn ∙ z))) (e ∙ ap refused_design drawn)
-
-  pub is-accepted : {a : CascadeRecord} (c : CascadeRecord) → r ≡ 0 → d ≡ accepted a → a ≡ c → d ≡ unless_refused v c
-  is-accepted c none e same = rw (eq-eqb v 0 (sym drawn ∙ none)) (e ∙ ap accepted same)
+-- what the code makes of a design by default is what its definition makes of it
+pub default_viewed : (r : Result Cascade Refusal) → design_view (default_of (λ c. finite_coefficients (cascade_view c)) r) ≡ cascade_by_default (design_view r)
+default_viewed =
+    default-viewed design_view (λ c. finite_coefficients (cascade_view c)) (λ (d : CascadeDesignRecord). d.refusal)
+    (λ (d : CascadeDesignRecord). finite_coefficients d.cascade) refused_design (λ c. refl) (λ c. refl) (λ n. refl) (λ n. refl)

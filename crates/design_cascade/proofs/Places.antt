@@ -1,10 +1,12 @@
 -- Sections put into their places one after the other, whatever type the code has for a section.
-use mathlib.Core.Path.{◌≡◌, refl, sym, ap, ◌∙◌}
-use mathlib.Core.List.{List, [], ◌∷◌, ◌++◌, map, append_assoc}
-use Prim.Native.Nat.{ℕ, zero, suc, ◌+◌, ◌*◌, ◌<◌}
+use mathlib.Core.Path.{◌≡◌, refl, sym, ap, ap₂, ◌∙◌}
+use mathlib.Core.List.{List, [], ◌∷◌, ◌++◌, map, append_assoc, map-append}
+use Prim.Native.Nat.{ℕ, zero, suc, ◌+◌, ◌*◌, ◌<◌, ◌≤◌}
 use native.Mathlib.Numerals.{add-one}
 use native.Mathlib.Omega.{arith}
-use lib.ListN.{length, set, length-append}
+use lib.ListN.{length, set, take, drop, length-append}
+use lib.Seq.{take_all, take-suc-set}
+use Rattle.std.proofs.lemmas.List.{drop-map}
 use lib.Ieee.{Float}
 use Rattle.limits.specs.Limits.{max_sections}
 use Rattle.cascade_theory.specs.Section.{SectionRecord, blank_section}
@@ -20,6 +22,15 @@ padded-next zero ss s h = absurd (omega arith)
 padded-next (suc p) [] s h = refl
 padded-next (suc p) (t ∷ ss) s h = ap (λ (l : List SectionRecord). t ∷ l) (padded-next p ss s (omega arith))
 
+-- blank sections with others in the first places
+padded-front : (p n : ℕ) (ss : List SectionRecord) → length ss ≡ n → n ≤ p → ss ++ drop n (padded p []) ≡ padded p ss
+unfolding padded
+padded-front p zero [] e h = refl
+padded-front zero (suc n) ss e h = absurd (omega arith)
+padded-front (suc p) (suc n) [] e h = absurd (omega arith)
+padded-front p zero (s ∷ ss) e h = absurd (omega arith)
+padded-front (suc p) (suc n) (s ∷ ss) e h = ap (λ (l : List SectionRecord). s ∷ l) (padded-front p n ss (omega arith) (omega arith))
+
 pub place : {A : Type 0} (view : A → SectionRecord) (kept : List A) (p i : ℕ) (ss : List SectionRecord) (a : A) (s : SectionRecord)
     → map view kept ≡ padded p ss → i ≡ length ss → i < p → view a ≡ s → map view (set kept i a) ≡ padded p (ss ++ s ∷ [])
 place view kept p i ss a s e n h v =
@@ -34,17 +45,20 @@ unfolding padded
 no-places = refl
 
 -- ---- one section a turn
-pub up_to-turn : {A : Type 0} (view : A → SectionRecord) (kept : List A) (g : ℕ → SectionRecord) (m : ℕ) (a : A)
-    → map view kept ≡ padded max_sections (up_to g m) → m < max_sections → view a ≡ g m → map view (set kept m a) ≡ padded max_sections (up_to g (m + 1))
-up_to-turn view kept g m a e h v =
-    rw add-one (place view kept max_sections m (up_to g m) a (g m) e (sym (up_to-length g m)) h v ∙ ap (padded max_sections) (more m))
-  where
-    more : (m : ℕ) → up_to g m ++ g m ∷ [] ≡ up_to g (suc m)
-    more m = unfold up_to in refl
+module _ {A : Type 0} (view : A → SectionRecord) (g : ℕ → SectionRecord) where
+  pub up_to-turn : (used : List A) (m : ℕ) (a : A) → map view (take m used) ≡ up_to g m → m < length used → view a ≡ g m
+      → map view (take (m + 1) (set used m a)) ≡ up_to g (m + 1)
+  unfolding up_to
+  up_to-turn used m a e h v = rw (add-one m, take-suc-set used m a h, map-append view (take m used) (a ∷ []), e, v)
 
-pub up_to-none : (g : ℕ → SectionRecord) → blank_section ∷ blank_section ∷ blank_section ∷ blank_section ∷ [] ≡ padded max_sections (up_to g 0)
-unfolding up_to
-up_to-none g = no-places
+  -- behind the used ones the blank ones are left
+  pub up_to-done : (used blanks : List A) (m n : ℕ) → map view (take m used) ≡ up_to g m → m ≡ n → length used ≤ m → map view blanks ≡ padded max_sections []
+      → n ≤ max_sections
+      → map view (used ++ drop n blanks) ≡ padded max_sections (up_to g n)
+  up_to-done used blanks m n e all long b h =
+      map-append view used (drop n blanks)
+      ∙ ap₂ (λ (l r : List SectionRecord). l ++ r) (rw (take_all m used long, all) at e) (sym (drop-map view n blanks) ∙ ap (drop n) b)
+      ∙ padded-front max_sections n (up_to g n) (up_to-length g n) h
 
 -- ---- two sections a turn
 module _ (n : ℕ) (bw w0 : Float) where

@@ -11,6 +11,7 @@ use Rattle.elementary.specs.Exponential.{pow10_of}
 use Rattle.hyperbolic.specs.Hyperbolic.{sinh_of, cosh_of, arcsinh_of}
 use Rattle.cascade_theory.specs.Section.{SectionRecord}
 use Rattle.design_poles.specs.Chebyshev.{cheb1_biquad, cheb2_biquad}
+use Rattle.design_cascade.specs.declared.prototype.Ellipse.{Ellipse}
 use Rattle.design_cascade.specs.declared.prototype.Prototype.{Prototype}
 use Rattle.design_cascade.specs.declared.prototype.Prototype.TheVariants.{ChebyshevI, ChebyshevII}
 
@@ -27,20 +28,20 @@ pub record PolePairRecord : Type 0 where
   pub omega : Float
   pub cos_theta : Float
 
-unfoldable pub pole_of : ℕ → ℕ → Float → Float → PolePairRecord
-pole_of n m sinh_a cosh_a =
+unfoldable pub pole_of : ℕ → ℕ → Ellipse → PolePairRecord
+pole_of n m e =
     let theta = theta_of n m in
-    record { sigma = neg sinh_a ⊗ sin_of theta; omega = cosh_a ⊗ cos_of theta; cos_theta = cos_of theta }
+    record { sigma = neg e.sinh_a ⊗ sin_of theta; omega = e.cosh_a ⊗ cos_of theta; cos_theta = cos_of theta }
 
-unfoldable pub cheb1_pair : ℕ → ℕ → Float → Float → Float → SectionRecord
-cheb1_pair n m sinh_a cosh_a k =
-    let p = pole_of n m sinh_a cosh_a in
+unfoldable pub cheb1_pair : ℕ → ℕ → Ellipse → Float → SectionRecord
+cheb1_pair n m e k =
+    let p = pole_of n m e in
     cheb1_biquad p.sigma p.omega k
 
 -- type II: the inversion σ/|s|², (−ω)/|s|², and the zero 1/|cos θ|
-unfoldable pub cheb2_pair : ℕ → ℕ → Float → Float → Float → SectionRecord
-cheb2_pair n m sinh_a cosh_a k =
-    let p = pole_of n m sinh_a cosh_a in
+unfoldable pub cheb2_pair : ℕ → ℕ → Ellipse → Float → SectionRecord
+cheb2_pair n m e k =
+    let p = pole_of n m e in
     let mag = p.sigma ⊗ p.sigma ⊕ p.omega ⊗ p.omega in
     cheb2_biquad (p.sigma ⊘ mag) (neg p.omega ⊘ mag) (one ⊘ abs_of p.cos_theta) k
 
@@ -48,13 +49,14 @@ cheb2_pair n m sinh_a cosh_a k =
 unfoldable pub epsilon_of : Float → Float
 epsilon_of db = sqrt_of binary64 (pow10_of (db ⊘ ten) ⊖ one)
 
--- a = arcsinh(1/ε)/N for type I, and arcsinh(ε)/N for type II
+-- a = arcsinh(x)/N, x being 1/ε for type I and ε for type II
+unfoldable pub ellipse_of : ℕ → Float → Ellipse
+ellipse_of n x =
+    let a = arcsinh_of x ⊘ nat n in
+    record { sinh_a = sinh_of a; cosh_a = cosh_of a }
+
 unfoldable pub cheb1_prototype : ℕ → Float → Float → Prototype
-cheb1_prototype n db k =
-    let a = arcsinh_of (one ⊘ epsilon_of db) ⊘ nat n in
-    ChebyshevI (sinh_of a) (cosh_of a) k
+cheb1_prototype n db k = ChebyshevI (ellipse_of n (one ⊘ epsilon_of db)) k
 
 unfoldable pub cheb2_prototype : ℕ → Float → Float → Prototype
-cheb2_prototype n db k =
-    let a = arcsinh_of (epsilon_of db) ⊘ nat n in
-    ChebyshevII (sinh_of a) (cosh_of a) k
+cheb2_prototype n db k = ChebyshevII (ellipse_of n (epsilon_of db)) k

@@ -20,15 +20,15 @@ use Rattle.design_cascade.specs.declared.prototype.Prototype.TheVariants.{Butter
 abbrev pub pair_of : Prototype → ℕ → ℕ → SectionRecord
 pair_of (ButterworthLow k) n m = lp_pair n m k
 pair_of (ButterworthHigh k) n m = hp_pair n m k
-pair_of (ChebyshevI sinh_a cosh_a k) n m = cheb1_pair n m sinh_a cosh_a k
-pair_of (ChebyshevII sinh_a cosh_a k) n m = cheb2_pair n m sinh_a cosh_a k
+pair_of (ChebyshevI ellipse k) n m = cheb1_pair n m ellipse k
+pair_of (ChebyshevII ellipse k) n m = cheb2_pair n m ellipse k
 
 -- the part of the real pole: of type I −sinh a, of type II (−1)/sinh a
 abbrev pub real_part : Prototype → FirstOrderRecord
 real_part (ButterworthLow k) = lp_first k
 real_part (ButterworthHigh k) = hp_first k
-real_part (ChebyshevI sinh_a cosh_a k) = cheb_first (neg sinh_a) k
-real_part (ChebyshevII sinh_a cosh_a k) = cheb_first (neg one ⊘ sinh_a) k
+real_part (ChebyshevI ellipse k) = cheb_first (neg ellipse.sinh_a) k
+real_part (ChebyshevII ellipse k) = cheb_first (neg one ⊘ ellipse.sinh_a) k
 
 -- an odd order has it
 unfoldable pub first_of : Prototype → ℕ → FirstOrderRecord

@@ -5,8 +5,8 @@
 mod butterworth;
 mod chebyshev;
 mod defaults;
+mod order;
 mod prototype;
-mod returned;
 
 pub use butterworth::{
     design_butterworth_bp_raw, design_butterworth_hp_raw, design_butterworth_lp_raw,
@@ -16,4 +16,3 @@ pub use defaults::{
     design_butterworth_bp, design_butterworth_hp, design_butterworth_lp, design_chebyshev1_lp,
     design_chebyshev2_lp,
 };
-pub use returned::CascadeDesignResult;

@@ -1,11 +1,9 @@
--- What the checks leave, and the whole numbers that an f64 holds.
+-- What the checks leave.
 use mathlib.Core.Path.{◌≡◌, refl}
 use mathlib.Core.Bool.{Bool, true, false, cond}
-use Prim.Native.Nat.{ℕ, ◌^◌, ◌<◌, ◌≤◌}
+use Prim.Native.Nat.{ℕ, ◌<◌, ◌≤◌}
 use native.Mathlib.Omega.{arith}
-use lib.Dec.{T, le→leb}
-use lib.IntN.{pos}
-use lib.Ieee.{Float, binary64, in_float}
+use lib.Ieee.{Float}
 use Rattle.runs.specs.Refusals.{invalid_order, order_refused}
 use Rattle.runs.proofs.Laws.{good-order}
 use Rattle.limits.specs.Limits.{max_order, max_band_order, max_taps}
@@ -31,8 +29,3 @@ good-band low high rate n e = good-order n max_band_order (first-passed (order_r
 pub good-fir : (n : ℕ) (cutoff : Float) → validate_fir n cutoff ≡ 0 → (0 < n) × (n ≤ max_taps)
 unfolding validate_fir
 good-fir n cutoff e = good-order n max_taps (first-passed (order_refused n max_taps) _ e)
-
--- ---- a whole number that an f64 holds
-pub small_float : (n : ℕ) → n ≤ 100 → T (in_float binary64 (pos n))
-unfolding in_float
-small_float n h = le→leb n (2 ^ 53) (omega arith)

@@ -1,2 +1,2 @@
--- The proofs that belong to no one function. Laws: what the checks leave, and whole numbers.
+-- The proofs that belong to no one function. Laws: what the checks leave.
 pub mod Laws

@@ -1,5 +1,5 @@
 -- 002's windowed-sinc low pass, operation by operation in the Rust's order: its windows, its taps, and what it returns.
-use Rattle.std.specs.Prelude.{ℕ, ◌-◌, cond, List, [], ◌∷◌, map, eqb, Float}
+use Rattle.std.specs.Prelude.{ℕ, ◌-◌, cond, Result, Ok, Err, List, [], ◌∷◌, map, eqb, Float}
 use Rattle.std.specs.Float.Ieee.{eq, lt}
 use Rattle.scalar.specs.Operators.{◌⊕◌, ◌⊖◌, ◌⊗◌, ◌⊘◌, bits, nat}
 use Rattle.limits.specs.Zero.{plus_zero}
@@ -7,6 +7,8 @@ use Rattle.scalar.specs.Constants.{one, two, half, pi, epsilon}
 use Rattle.scalar.specs.Sign.{abs_of}
 use Rattle.elementary.specs.Trigonometric.{sin_of, cos_of}
 use Rattle.runs.specs.Refusals.{no_refusal}
+use Rattle.runs.specs.declared.refusal.Refusal.{Refusal}
+use Rattle.runs.specs.declared.refusal.Refusal.TheVariants.{BadCall}
 use Rattle.fir_theory.specs.Fir.{rectangular, hamming, hanning, blackman, FirDesignRecord, holding, refused_taps}
 use Rattle.limits.specs.Limits.{max_taps}
 use Rattle.design_checks.specs.Checks.{validate_fir}
@@ -20,6 +22,13 @@ code_of window.Rectangular = rectangular
 code_of window.Hamming = hamming
 code_of window.Hanning = hanning
 code_of window.Blackman = blackman
+
+-- the window of a code; no other code has one
+abbrev pub window_of : ℕ → Result WindowType Refusal
+window_of n =
+    cond (eqb n rectangular) (Ok window.Rectangular)
+    (cond (eqb n hamming) (Ok window.Hamming)
+    (cond (eqb n hanning) (Ok window.Hanning) (cond (eqb n blackman) (Ok window.Blackman) (Err BadCall))))
 
 -- the weight at i of n places, by 2π: 0.54 − 0.46 × cos, 0.5 × (1 − cos), and (0.42 − 0.5 × cos) + 0.08 × cos of the double, at (2π × i)/(n − 1)
 unfoldable pub weight_of : WindowType → Float → Float → Float → Float

@@ -15,6 +15,7 @@ pub struct Denominator {
     pub a2: f64,
 }
 
+#[tactic(auto, unfolding(crate::specs::Butterworth::denominator_of))]
 pub(crate) fn denominator_of(sigma: f64, omega_im: f64, k: f64) -> Denominator
     ensures { denominator_view result ≡ denominator_of sigma omega_im k }
 {
@@ -31,6 +32,7 @@ pub(crate) fn denominator_of(sigma: f64, omega_im: f64, k: f64) -> Denominator
 }
 
 // The low-pass section of the prototype's pole pair σ ± jω.
+#[tactic(auto, unfolding(crate::specs::Butterworth::lp_biquad))]
 pub fn lp_biquad_from_pole(sigma: f64, omega_im: f64, k: f64) -> Section
     ensures { section_view result ≡ lp_biquad sigma omega_im k }
 {
@@ -40,6 +42,7 @@ pub fn lp_biquad_from_pole(sigma: f64, omega_im: f64, k: f64) -> Section
 }
 
 // The high-pass section of the prototype's pole pair.
+#[tactic(auto, unfolding(crate::specs::Butterworth::hp_biquad))]
 pub fn hp_biquad_from_pole(sigma: f64, omega_im: f64, k: f64) -> Section
     ensures { section_view result ≡ hp_biquad sigma omega_im k }
 {
@@ -48,6 +51,7 @@ pub fn hp_biquad_from_pole(sigma: f64, omega_im: f64, k: f64) -> Section
 }
 
 // The low-pass part of the real pole.
+#[tactic(auto, unfolding(crate::specs::Butterworth::lp_first))]
 pub fn lp_first_order_from_pole(k: f64) -> FirstOrder
     ensures { first_view result ≡ lp_first k }
 {
@@ -56,6 +60,7 @@ pub fn lp_first_order_from_pole(k: f64) -> FirstOrder
 }
 
 // The high-pass part of the real pole.
+#[tactic(auto, unfolding(crate::specs::Butterworth::hp_first))]
 pub fn hp_first_order_from_pole(k: f64) -> FirstOrder
     ensures { first_view result ≡ hp_first k }
 {

@@ -7,6 +7,7 @@ use super::butterworth::denominator_of;
 use sections::{FirstOrder, Section};
 
 // The section of the type I pole pair σ ± jω.
+#[tactic(auto, unfolding(crate::specs::Chebyshev::cheb1_biquad))]
 pub fn cheb1_lp_biquad(sigma: f64, omega_im: f64, k: f64) -> Section
     ensures { section_view result ≡ cheb1_biquad sigma omega_im k }
 {
@@ -17,6 +18,7 @@ pub fn cheb1_lp_biquad(sigma: f64, omega_im: f64, k: f64) -> Section
 }
 
 // The part of the type I real pole σ.
+#[tactic(auto, unfolding(crate::specs::Chebyshev::cheb_first))]
 pub fn cheb1_lp_first_order(sigma: f64, k: f64) -> FirstOrder
     ensures { first_view result ≡ cheb_first sigma k }
 {
@@ -27,6 +29,7 @@ pub fn cheb1_lp_first_order(sigma: f64, k: f64) -> FirstOrder
 }
 
 // The section of the type II pole pair σ ± jω and the zeros ±j·zero_im.
+#[tactic(auto, unfolding(crate::specs::Chebyshev::cheb2_biquad))]
 pub fn cheb2_lp_biquad(sigma: f64, omega_im: f64, zero_im: f64, k: f64) -> Section
     ensures { section_view result ≡ cheb2_biquad sigma omega_im zero_im k }
 {

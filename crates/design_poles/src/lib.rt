@@ -1,5 +1,6 @@
 // From a pole, or a pair of them, to the low-pass or high-pass section or first-order part that has it: the formulas of
-// 000 and 001, operation by operation in the Rust's order.
+// 000 and 001, operation by operation in the Rust's order. Functions and parameters are the Rust's own, σ and ω of a pair beside k
+// among them.
 #![tactic(auto)]
 
 mod butterworth;

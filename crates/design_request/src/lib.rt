@@ -2,19 +2,20 @@
 #![tactic(auto)]
 
 ghost use Rattle.std.specs.Prelude.{◌≡◌};
-ghost use Rattle.fir.specs.View.{made_view};
+ghost use Rattle.runs.specs.View.{refusal_in};
 ghost use Rattle.design_cascade.specs.View.{design_view};
-ghost use Rattle.design_request.specs.Request.{check_request, of_cascade, of_taps, design_of, design_by_default};
-ghost use Rattle.design_request.specs.View.{designed_view};
+ghost use Rattle.design_request.specs.Request.{check_request, of_cascade, design_of, design_by_default};
+ghost use Rattle.design_request.specs.View.{finite_in, designed_view, design_in};
 
 use cascade::Cascade;
 use design_cascade::{
-    CascadeDesignResult, design_butterworth_bp_raw, design_butterworth_hp_raw,
-    design_butterworth_lp_raw, design_chebyshev1_lp_raw, design_chebyshev2_lp_raw,
+    design_butterworth_bp_raw, design_butterworth_hp_raw, design_butterworth_lp_raw,
+    design_chebyshev1_lp_raw, design_chebyshev2_lp_raw,
 };
 use design_checks::{validate_band, validate_chebyshev, validate_fir, validate_params};
 use design_fir::{WindowType, design_fir_lp_raw};
-use fir::{FirDesignResult, TapRecord};
+use fir::TapRecord;
+use runs::{Coefficients, Refusal};
 
 // What may be asked for. A FIR's cutoff is a share of the rate.
 #[derive(Clone, Copy)]
@@ -54,47 +55,42 @@ pub enum DesignRequest {
     },
 }
 
-// A design of either kind: 0 or the refusal number, and both records; the one not asked for is blank.
+// A design of either kind.
 #[derive(Clone, Copy)]
-pub struct DesignResult {
-    pub refusal: u8,
-    pub cascade: Cascade,
-    pub filter: TapRecord,
+pub enum Designed {
+    Cascade(Cascade),
+    Fir(TapRecord),
 }
 
-impl DesignResult {
-    // 02's Q-3: by default a design whose coefficients are not all finite is refused by 25.
-    fn by_default(self) -> DesignResult
-        ensures { designed_view result ≡ design_by_default (designed_view self) }
-    {
-        if self.refusal != 0 {
-            return self;
-        }
-        let made = self.cascade;
-        let filter = self.filter;
-        if made.coefficients_are_finite() & filter.taps_are_finite() {
-            return self;
-        }
-        let blank = Cascade::blank();
-        DesignResult {
-            refusal: runs::NON_FINITE_COEFFICIENT,
-            cascade: blank,
-            filter: TapRecord::blank(),
+impl Coefficients for Designed {
+    ghost finite = { finite_in };
+
+    fn coefficients_are_finite(self) -> bool {
+        match self {
+            Designed::Cascade(cascade) => cascade.coefficients_are_finite(),
+            Designed::Fir(filter) => filter.coefficients_are_finite(),
         }
     }
 }
 
-// The number that a check of the parameters draws, or 0. It works out no coefficient, so it never gives 25.
-pub fn check_request(request: DesignRequest) -> u8
-    ensures { result ≡ check_request request }
+// 02's Q-3: the default form refuses by 25 where the coefficients are not all finite; the raw form hands them out.
+#[derive(Clone, Copy, Debug, PartialEq, Eq)]
+pub enum Form {
+    Default,
+    Raw,
+}
+
+// Whether the parameters pass their check. It works out no coefficient, so it never gives 25.
+pub fn check_request(request: DesignRequest) -> Result<(), Refusal>
+    ensures { refusal_in result ≡ check_request request }
 {
     match request {
         DesignRequest::LowPass {
             order,
             cutoff,
             sample_rate,
-        } => validate_params(cutoff, sample_rate, order),
-        DesignRequest::HighPass {
+        }
+        | DesignRequest::HighPass {
             order,
             cutoff,
             sample_rate,
@@ -125,39 +121,32 @@ pub fn check_request(request: DesignRequest) -> u8
     }
 }
 
-// With a blank tap record.
-fn of_cascade(d: CascadeDesignResult) -> DesignResult
-    ensures { designed_view result ≡ of_cascade (design_view d) }
+// A cascade that was designed, as a design.
+fn of_cascade(made: Result<Cascade, Refusal>) -> Result<Designed, Refusal>
+    ensures { designed_view result ≡ of_cascade (design_view made) }
 {
-    let cascade = d.cascade;
-    DesignResult {
-        refusal: d.refusal,
-        cascade,
-        filter: TapRecord::blank(),
-    }
+    made.map(Designed::Cascade)
 }
 
-// With a blank cascade.
-fn of_taps(m: FirDesignResult) -> DesignResult
-    ensures { designed_view result ≡ of_taps (made_view m) }
+// The design that is asked for, in a form.
+pub fn design_in(form: Form, request: DesignRequest) -> Result<Designed, Refusal>
+    ensures { designed_view result ≡ design_in form request }
 {
-    let filter = m.filter;
-    DesignResult {
-        refusal: m.refusal,
-        cascade: Cascade::blank(),
-        filter,
+    match form {
+        Form::Default => design(request),
+        Form::Raw => design_raw(request),
     }
 }
 
 // The design that is asked for. One whose coefficients are not all finite is refused by 25, after every other check.
-pub fn design(request: DesignRequest) -> DesignResult
+pub fn design(request: DesignRequest) -> Result<Designed, Refusal>
     ensures { designed_view result ≡ design_by_default (design_of request) }
 {
-    design_raw(request).by_default()
+    runs::by_default(design_raw(request))
 }
 
 // The same of any coefficients, finite or not: the Rust's design.
-pub fn design_raw(request: DesignRequest) -> DesignResult
+pub fn design_raw(request: DesignRequest) -> Result<Designed, Refusal>
     ensures { designed_view result ≡ design_of request }
 {
     match request {
@@ -193,6 +182,6 @@ pub fn design_raw(request: DesignRequest) -> DesignResult
             taps,
             cutoff,
             window,
-        } => of_taps(design_fir_lp_raw(taps, cutoff, window)),
+        } => design_fir_lp_raw(taps, cutoff, window).map(Designed::Fir),
     }
 }

@@ -16,7 +16,9 @@ use Rattle.scalar.specs.Operators.{◌⊗◌, ◌⊘◌, bits}
 use Rattle.scalar.specs.Constants.{ln2}
 use Rattle.scalar.specs.Sign.{abs_of}
 use Rattle.elementary.specs.Whole.{Within, nearest_of}
-use Rattle.elementary.specs.Trigonometric.{turnable}
+use Rattle.elementary.specs.declared.trigonometric.Angle.{Angle}
+use Rattle.elementary.specs.Trigonometric.{turnable, reduced_of}
+use Rattle.std.proofs.Common.{Option, Some, None, MatchOption}
 use Rattle.elementary.specs.Exponential.{Scale}
 
 -- ---- from a comparison to a bound
@@ -95,6 +97,17 @@ pub turnable-within : (x : Float) → turnable x ≡ true → Within 128 x
 unfolding turnable of_bits
 turnable-within x t = within-of-le 128 x (bits 0x4060000000000000) (subst T (sym t) tt) (refl, refl)
 
+-- a function of the reduced angle, or a NaN where there is none
+pub angle-or : (x : Float) (o : Option Angle) (y : Float) (f : Angle → Float) {Q : Angle → Type 0} → o ≡ cond (turnable x) (Some (reduced_of x)) None
+    → MatchOption o (y ≡ nan) Q
+    → ((a : Angle) → Q a → y ≡ f a)
+    → y ≡ cond (turnable x) (f (reduced_of x)) nan
+angle-or x o y f {Q} e h k = go (turnable x) (subst (λ (z : Option Angle). MatchOption z (y ≡ nan) Q) e h)
+  where
+    go : (b : Bool) → MatchOption (cond b (Some (reduced_of x)) None) (y ≡ nan) Q → y ≡ cond b (f (reduced_of x)) nan
+    go true q = k (reduced_of x) q
+    go false n = n
+
 pub turns-within : (x : Float) → Within 128 x → Within (2 ^ 52) (x ⊗ bits 0x3FE45F306DC9C883)
 turns-within x h = within-mono 128 (2 ^ 52) (x ⊗ bits 0x3FE45F306DC9C883) (lit≤ tt)
     (mul-within 128 1 x (bits 0x3FE45F306DC9C883) h (unfold Within of_bits in lit≤ tt) (lit≤ tt))
@@ -134,8 +147,8 @@ quotient false m e = refl
 abbrev pub Ranged : Float → Type 0
 Ranged x = Within 1023 (x ⊘ ln2) × Scale (nearest_of (x ⊘ ln2))
 
-pub ranged : (x : Float) → lt (bits 0x4086280000000000) x ≡ false → lt x (Ieee.neg (bits 0x4086200000000000)) ≡ false → Ieee.ne x x ≡ false → Ranged x
-ranged nan p q n = absurd (unfold Ieee.ne in true≢false n)
+pub ranged : (x : Float) → lt (bits 0x4086280000000000) x ≡ false → lt x (Ieee.neg (bits 0x4086200000000000)) ≡ false → Ieee.is_nan x ≡ false → Ranged x
+ranged nan p q n = absurd (unfold Ieee.is_nan in true≢false n)
 ranged (inf true) p q n = absurd (unfold lt of_bits Ieee.neg in true≢false q)
 ranged (inf false) p q n = absurd (unfold lt of_bits in true≢false p)
 ranged (fin false m e) p q n =

@@ -1,6 +1,4 @@
--- The proofs that belong to no one function. Rest: the nearest whole number. Bounds: magnitudes of rounded numbers. Words: the machine's signed numbers.
--- Powers: powers of two.
+-- The proofs that belong to no one function. Rest: the nearest whole number. Bounds: magnitudes of rounded numbers. Powers: powers of two.
 pub mod Rest
 pub mod Bounds
-pub mod Words
 pub mod Powers

@@ -5,7 +5,7 @@ use Rattle.std.specs.Float.{nan}
 use Rattle.std.specs.Float.Ieee.{neg}
 use Rattle.scalar.specs.Operators.{◌⊖◌, ◌⊗◌, ◌⊘◌, bits, int}
 use Rattle.scalar.specs.Sign.{abs_of}
-use Rattle.elementary.specs.Whole.{nearest_of, mod4, Within}
+use Rattle.elementary.specs.Whole.{nearest_of, mod4}
 use Rattle.series.specs.Series.{sin_rest, cos_rest}
 use Rattle.elementary.specs.declared.trigonometric.Angle.{Angle}
 
@@ -52,7 +52,3 @@ cos_of x = cond (turnable x) (cos_in (reduced_of x)) nan
 
 unfoldable pub tan_of : Float → Float
 tan_of x = sin_of x ⊘ cos_of x
-
--- what `reduced` asks of its argument
-abbrev pub Turnable : Float → Type 0
-Turnable x = Within 128 x

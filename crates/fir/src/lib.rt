@@ -4,77 +4,31 @@
 
 ghost use Rattle.std.specs.Prelude.{◌≡◌};
 ghost use Rattle.std.specs.Float.{binary64};
-ghost use Rattle.runs.specs.Runs.{step, reset, block};
 ghost use Rattle.fir_theory.specs.Fir.{finite_taps, check_taps, zeros, blank_taps, fir, from_coeffs, taps_by_default};
+ghost use Rattle.fir_theory.specs.Lent.{lent_taps};
 ghost use Rattle.limits.specs.Limits.{max_taps};
-ghost use Rattle.fir.specs.View.{taps_view, updated_view, reset_view, block_view, made_view};
+ghost use Rattle.fir.specs.View.{taps_view, made_view, counts_of};
 
-use runs::Answer;
+use fir_step::Counts;
+use runs::{BlockResult, Coefficients, FilterRecord, Refusal, ResetResult, UpdateResult};
 
 #[derive(Clone, Copy)]
 pub struct TapRecord {
     pub taps: [f64; TapRecord::MAX_TAPS],
     pub samples: [f64; TapRecord::MAX_TAPS],
-    // How many taps there are, and how many samples are held.
+    // How many taps there are, and how many samples are held. Counts beside arrays: there is no heap, and C's slices have all places.
     pub length: usize,
     pub held: usize,
-    // Which window made the taps: Rectangular 0, Hamming 1, Hanning 2, Blackman 3, ready-made 4.
+    // Which window made the taps: Rectangular 0, Hamming 1, Hanning 2, Blackman 3, ready-made 4. A number and no enum: a record whose
+    // code is above 4 is refused by 12.
     pub window: u8,
 }
 
-// What `update` returns.
-#[derive(Clone, Copy)]
-pub struct UpdateResult {
-    pub filter: TapRecord,
-    pub answer: Answer,
-}
-
-// What `reset` returns: 0 or the refusal number, and the record.
-#[derive(Clone, Copy)]
-pub struct ResetResult {
-    pub filter: TapRecord,
-    pub refusal: u8,
-}
-
-// What `block` returns: 0 or the refusal number, how many answers were Clouded, and the record.
-#[derive(Clone, Copy)]
-pub struct BlockResult {
-    pub filter: TapRecord,
-    pub refusal: u8,
-    pub clouded: usize,
-}
-
-// What ready-made taps return, and a design: 0 or the refusal number, and the record.
-#[derive(Clone, Copy)]
-pub struct FirDesignResult {
-    pub filter: TapRecord,
-    pub refusal: u8,
-}
-
+// As many +0 as a record has places.
 fn no_numbers() -> [f64; TapRecord::MAX_TAPS]
     ensures { result ≡ zeros max_taps }
 {
     [0.0; TapRecord::MAX_TAPS]
-}
-
-impl FirDesignResult {
-    // 02's Q-3: by default taps that are not all finite are refused by 25.
-    pub fn by_default(self) -> FirDesignResult
-        ensures { made_view result ≡ taps_by_default max_taps (made_view self) }
-    {
-        if self.refusal != 0 {
-            return self;
-        }
-        let made = self.filter;
-        if made.taps_are_finite() {
-            return self;
-        }
-        let blank = TapRecord::blank();
-        FirDesignResult {
-            refusal: runs::NON_FINITE_COEFFICIENT,
-            filter: blank,
-        }
-    }
 }
 
 impl TapRecord {
@@ -88,14 +42,23 @@ impl TapRecord {
     pub fn blank() -> Self
         ensures { taps_view result ≡ blank_taps max_taps }
     {
-        let taps = no_numbers();
-        let samples = no_numbers();
         TapRecord {
-            taps,
-            samples,
+            taps: no_numbers(),
+            samples: no_numbers(),
             length: 0,
             held: 0,
             window: 0,
+        }
+    }
+
+    // Its counts, as a lent record has them.
+    fn counts(self) -> Counts
+        ensures { result ≡ counts_of self }
+    {
+        Counts {
+            length: self.length,
+            held: self.held,
+            window: usize::from(self.window),
         }
     }
 
@@ -103,134 +66,80 @@ impl TapRecord {
     pub fn check(self) -> bool
         ensures { result ≡ check_taps max_taps (taps_view self) }
     {
-        let window = self.window;
-        fir_step::check(self.length, self.held, window as usize)
-    }
-
-    // 02's Q-3: whether its taps are all finite.
-    pub fn taps_are_finite(self) -> bool
-        ensures { result ≡ finite_taps (taps_view self) }
-    {
-        let taps = self.taps;
-        !runs::not_all_finite(&taps, self.length)
+        self.counts().check()
     }
 
     // A record of taps given ready-made. None or more than 64 are refused by 1, and taps that are not all finite by 25.
-    pub fn from_coeffs(coeffs: &[f64]) -> FirDesignResult
+    pub fn from_coeffs(coeffs: &[f64]) -> Result<Self, Refusal>
         ensures { made_view result ≡ taps_by_default max_taps (from_coeffs max_taps coeffs.now) }
     {
-        TapRecord::from_coeffs_raw(coeffs).by_default()
+        runs::by_default(TapRecord::from_coeffs_raw(coeffs))
     }
 
     // The same of any taps, finite or not.
-    pub fn from_coeffs_raw(coeffs: &[f64]) -> FirDesignResult
+    #[tactic(auto, using(std::proofs::lemmas::Bool::Decides::nat_tests), unfolding(fir_theory::specs::Fir::from_coeffs, runs::specs::Refusals::order_refused))]
+    pub fn from_coeffs_raw(coeffs: &[f64]) -> Result<Self, Refusal>
         ensures { made_view result ≡ from_coeffs max_taps coeffs.now }
     {
         let length = coeffs.len();
-        if length < 1 {
-            let filter = TapRecord::blank();
-            return FirDesignResult {
-                refusal: runs::INVALID_ORDER,
-                filter,
-            };
+        if length < 1 || length > TapRecord::MAX_TAPS {
+            return Err(Refusal::InvalidOrder);
         }
-        if length > TapRecord::MAX_TAPS {
-            let filter = TapRecord::blank();
-            return FirDesignResult {
-                refusal: runs::INVALID_ORDER,
-                filter,
-            };
-        }
-        let samples = no_numbers();
         let mut taps = no_numbers();
         lists::copy(coeffs, &mut taps);
-        FirDesignResult {
-            refusal: 0,
-            filter: TapRecord {
-                taps,
-                samples,
-                length,
-                held: 0,
-                window: TapRecord::READY_MADE,
-            },
-        }
+        Ok(TapRecord {
+            taps,
+            samples: no_numbers(),
+            length,
+            held: 0,
+            window: TapRecord::READY_MADE,
+        })
     }
+}
 
-    // One sample: its answer, and the record after it.
-    pub fn update(self, x: f64) -> UpdateResult
-        ensures { updated_view result ≡ step (fir max_taps binary64) (taps_view self) x }
-    {
-        let taps = self.taps;
-        let mut samples = self.samples;
-        let window = self.window;
-        let s = fir_step::update(
-            &taps,
-            &mut samples,
-            self.length,
-            self.held,
-            window as usize,
-            x,
-        );
-        let answer = s.answer;
+impl Coefficients for TapRecord {
+    ghost finite = { λ r. finite_taps (taps_view r) };
+
+    // The first `length` taps, or all where they are fewer. Not inline: its caller would keep a copy of the record, which takes stack.
+    #[inline(never)]
+    fn coefficients_are_finite(self) -> bool {
+        !runs::not_all_finite(&self.taps[..self.length.min(TapRecord::MAX_TAPS)])
+    }
+}
+
+impl FilterRecord for TapRecord {
+    ghost theory = { fir max_taps binary64 };
+
+    ghost view = { taps_view };
+
+    fn update(mut self, x: f64) -> UpdateResult<Self> {
+        let mut counts = self.counts();
+        let answer = fir_step::update(&self.taps, &mut self.samples, &mut counts, x);
+        self.held = counts.held;
         UpdateResult {
-            filter: TapRecord {
-                taps,
-                samples,
-                length: self.length,
-                held: s.held,
-                window,
-            },
             answer,
+            record: self,
         }
     }
 
     // Makes all sample places +0 and the held count 0.
-    pub fn reset(self) -> ResetResult
-        ensures { reset_view result ≡ reset (fir max_taps binary64) (taps_view self) }
-    {
-        let taps = self.taps;
-        let mut samples = self.samples;
-        let window = self.window;
-        let s = fir_step::reset(&taps, &mut samples, self.length, self.held, window as usize);
+    fn reset(mut self) -> ResetResult<Self> {
+        let mut counts = self.counts();
+        let outcome = fir_step::reset(&self.taps, &mut self.samples, &mut counts);
+        self.held = counts.held;
         ResetResult {
-            filter: TapRecord {
-                taps,
-                samples,
-                length: self.length,
-                held: s.held,
-                window,
-            },
-            refusal: s.refusal,
+            outcome,
+            record: self,
         }
     }
 
-    // A block of samples, each as `update` has it: the answers in the first places of the output, later places left. An
-    // output shorter than the input is refused by 5.
-    pub fn block(self, input: &[f64], output: &mut [f64]) -> BlockResult
-        ensures { block_view result output.new ≡ block (fir max_taps binary64) (taps_view self) input.now output.old }
-    {
-        let taps = self.taps;
-        let mut samples = self.samples;
-        let window = self.window;
-        let b = fir_block::block(
-            &taps,
-            &mut samples,
-            self.length,
-            self.held,
-            window as usize,
-            input,
-            output,
-        );
+    fn block(mut self, input: &[f64], output: &mut [f64]) -> BlockResult<Self> {
+        let mut counts = self.counts();
+        let outcome = fir_block::block(&self.taps, &mut self.samples, &mut counts, input, output);
+        self.held = counts.held;
         BlockResult {
-            filter: TapRecord {
-                taps,
-                samples,
-                length: self.length,
-                held: b.held,
-                window,
-            },
-            refusal: b.refusal,
-            clouded: b.clouded,
+            outcome,
+            record: self,
         }
     }
 }

@@ -3,97 +3,53 @@
 // blocks.
 #![tactic(auto)]
 
-ghost use Rattle.std.specs.Prelude.{◌≡◌, true, ◌++◌, ◌+◌, ◌-◌, ◌*◌, ◌≤◌, ◌<◌, min, length, take, drop};
+ghost use Rattle.std.specs.Prelude.{◌≡◌, true, ◌++◌, ◌+◌, ◌*◌, ◌≤◌, min, length, take, drop, reverse};
 ghost use Rattle.std.specs.Float.{binary64};
+ghost use Rattle.limits.specs.Limits.{max_taps};
 ghost use Rattle.runs.specs.Runs.{block};
 ghost use Rattle.runs.specs.Lent.{lent_block};
-ghost use Rattle.lists.specs.Lists.{spliced};
+ghost use Rattle.runs.specs.View.{refusal_in, count_in};
 ghost use Rattle.fir_theory.specs.Fir.{check_taps, fir};
-ghost use Rattle.limits.specs.Limits.{max_taps};
-ghost use Rattle.fir_theory.specs.Lent.{lent_taps, fits};
-ghost use Rattle.fir_theory.specs.Blocks.{back_from, finite_run, age_after, clouds_from, newest_of, ran_block, FullRun};
+ghost use Rattle.fir_theory.specs.Lent.{fits};
+ghost use Rattle.fir_theory.specs.Blocks.{finite_run, clouds_from, values, ran_block};
+ghost use Rattle.fir_step.specs.View.{lent_view};
 
+use fir_step::Counts;
 use limits::MAX_TAPS;
+use runs::Refusal;
 
-// What a block returns: 0 or the refusal number, how many answers were Clouded, and the held count after it.
-#[derive(Clone, Copy)]
-pub struct BlockResult {
-    pub refusal: u8,
-    pub clouded: usize,
-    pub held: usize,
-}
-
-// How many answers were Clouded, and the held count after them.
-#[derive(Clone, Copy)]
-struct PassResult {
-    clouded: usize,
-    held: usize,
-}
-
-// n samples of x from place `last` backward, into the first n places of `to`.
-fn copy_back(x: &[f64], last: usize, n: usize, to: &mut [f64])
-    requires { (n ≤ last + 1) × (last < length x.now) × (n ≤ length to.old) }
-    ensures { to.new ≡ back_from n x.now last ++ drop n to.old }
+// Samples the other way round. This is faster than `copy_from_slice` and `reverse` (docs/SPEED.md), and what is written through `zip`
+// is not known behind the loop.
+fn copy_back(from: &[f64], to: &mut [f64])
+    requires { length to.old ≡ length from.now }
+    ensures { to.new ≡ reverse from.now }
 {
-    let mut i: usize = 0;
-    while i < n {
-        to[i] = x[last - i];
-        i += 1;
+    for (i, place) in to.iter_mut().enumerate() {
+        *place = from[from.len() - 1 - i];
     }
 }
 
-// m samples of x from place `from` on, into `to` from place n on.
-fn copy_on(x: &[f64], from: usize, m: usize, to: &mut [f64], n: usize)
-    requires { (from + m ≤ length x.now) × (n + m ≤ length to.old) }
-    ensures { to.new ≡ spliced to.old n (take m (drop from x.now)) }
+// How many samples are finite up to the first that is not.
+fn finite_run(samples: &[f64]) -> usize
+    ensures few { result ≤ length samples.now }
+    ensures run { result ≡ finite_run samples.now }
 {
-    let mut j: usize = 0;
-    while j < m {
-        to[n + j] = x[from + j];
-        j += 1;
-    }
+    samples
+        .iter()
+        .take_while(|x| scalar::is_finite(**x))
+        .count()
 }
 
-// How many of the first n samples are finite up to the first that is not.
-fn finite_run(samples: &[f64], n: usize) -> usize
-    requires { n ≤ length samples.now }
-    ensures { result ≡ min (finite_run samples.now) n }
+// How many of the answers of n taps to the input are Clouded, after so many finite samples.
+fn count_clouded(n: usize, mut age: usize, input: &[f64]) -> usize
+    requires { age ≤ max_taps }
+    ensures few { result ≤ length input.now }
+    ensures count { result ≡ clouds_from n (min age n) input.now }
 {
-    let mut i: usize = 0;
-    while i < n {
-        if !scalar::is_finite(samples[i]) {
-            return i;
-        }
-        i += 1;
-    }
-    n
-}
-
-// How many finite samples, up to n, end with x, after so many before it.
-fn age_after(n: usize, age: usize, x: f64) -> usize
-    requires { age ≤ n }
-    ensures { result ≡ age_after n age x }
-{
-    if !scalar::is_finite(x) {
-        return 0;
-    }
-    if age < n { age + 1 } else { n }
-}
-
-// How many of the answers to the samples from place `from` on are Clouded.
-fn count_clouded(n: usize, age: usize, input: &[f64], from: usize) -> usize
-    requires { (age ≤ n) × (from ≤ length input.now) }
-    ensures { result ≡ clouds_from n age (drop from input.now) }
-{
-    let mut clouded: usize = 0;
-    let mut age = age;
-    let mut i = from;
-    while i < input.len() {
-        age = age_after(n, age, input[i]);
-        if age < n {
-            clouded += 1;
-        }
-        i += 1;
+    let mut clouded = 0;
+    for x in input {
+        age = if scalar::is_finite(*x) { age + 1 } else { 0 };
+        clouded += usize::from(age < n);
     }
     clouded
 }
@@ -105,141 +61,131 @@ fn empty_line() -> [f64; 2 * MAX_TAPS]
     [0.0; 2 * MAX_TAPS]
 }
 
-// The n held samples, oldest first, and behind them m samples of the input from place `from` on.
-fn line_of(samples: &[f64], n: usize, input: &[f64], from: usize, m: usize) -> [f64; 2 * MAX_TAPS]
-    requires { (1 ≤ n) × (n ≤ max_taps) × (n ≤ length samples.now) × (m ≤ n) × (from + m ≤ length input.now) }
-    ensures { (length result ≡ 2 * max_taps) × (take (n + m) result ≡ back_from n samples.now (n - 1) ++ take m (drop from input.now)) }
+// The held samples, oldest first, and behind them the input.
+fn line_of(samples: &[f64], input: &[f64]) -> [f64; 2 * MAX_TAPS]
+    requires samples { length samples.now ≤ max_taps }
+    requires input { length input.now ≤ length samples.now }
+    ensures long { length result ≡ 2 * max_taps }
+    ensures filled { take (length samples.now + length input.now) result ≡ reverse samples.now ++ input.now }
 {
+    let n = samples.len();
     let mut line = empty_line();
-    copy_back(samples, n - 1, n, &mut line);
-    copy_on(input, from, m, &mut line, n);
+    copy_back(samples, &mut line[..n]);
+    line[n..n + input.len()].copy_from_slice(input);
     line
 }
 
-// The newest n samples after m of the input, the last of which ends it: from the line where they are fewer than n.
-fn keep_newest(samples: &mut [f64], n: usize, line: &[f64], input: &[f64], m: usize)
-    requires { (1 ≤ n) × (n ≤ length samples.old) × (n + n ≤ length line.now) × (m ≤ length input.now) }
-    ensures { samples.new ≡ newest_of n line.now input.now m ++ drop n samples.old }
+// The newest samples after the input: from the line where the input is shorter than they are.
+fn keep_newest(samples: &mut [f64], line: &[f64], input: &[f64])
+    requires long { length samples.old + length samples.old ≤ length line.now }
+    requires filled { length input.now ≤ length samples.old
+        → take (length samples.old + length input.now) line.now ≡ reverse samples.old ++ input.now }
+    ensures { samples.new ≡ take (length samples.old) (reverse input.now ++ samples.old) }
 {
+    let (n, m) = (samples.len(), input.len());
     if m < n {
-        copy_back(line, n + m - 1, n, samples);
+        copy_back(&line[m..n + m], samples);
     } else {
-        copy_back(input, input.len() - 1, n, samples);
+        copy_back(&input[m - n..], samples);
     }
 }
 
-// Samples from place `from` on, through a record of n taps that holds as many samples: how many answers were Clouded.
-fn pass_all(
-    taps: &[f64],
-    samples: &mut [f64],
-    n: usize,
-    input: &[f64],
-    from: usize,
-    output: &mut [f64],
-) -> usize
-    requires { (1 ≤ n) × (n ≤ max_taps) × (length taps.now ≡ max_taps) × (length samples.old ≡ max_taps) × (from ≤ length input.now)
-        × (length input.now ≤ length output.old) }
-    ensures { FullRun taps.now samples.old n input.now from output.old result samples.new
-        output.new }
+// The input through as many taps as there are held samples: how many answers are Clouded.
+fn pass_all(taps: &[f64], samples: &mut [f64], input: &[f64], output: &mut [f64]) -> usize
+    requires some { 1 ≤ length taps.now }
+    requires taps { length taps.now ≤ max_taps }
+    requires samples { length samples.old ≡ length taps.now }
+    requires output { length output.old ≡ length input.now }
+    ensures few { result ≤ length input.now }
+    ensures clouded { result
+        ≡ clouds_from (length taps.now) (min (finite_run samples.old) (length taps.now)) input.now }
+    ensures newest { samples.new ≡ take (length taps.now) (reverse input.now ++ samples.old) }
+    ensures sums { output.new ≡ values binary64 taps.now (length taps.now) samples.old input.now }
 {
-    let m = input.len() - from;
-    let few = if m < n { m } else { n };
-    let line = line_of(samples, n, input, from, few);
-    fir_sums::convolve(taps, n, &line, n, output, from, few);
-    fir_sums::convolve(taps, n, input, from + few, output, from + few, m - few);
-    let age = finite_run(samples, n);
-    let clouded = count_clouded(n, age, input, from);
-    keep_newest(samples, n, &line, input, m);
+    let n = taps.len();
+    let few = n.min(input.len());
+    let line = line_of(samples, &input[..few]);
+    let (front, back) = output.split_at_mut(few);
+    fir_sums::convolve(taps, &line[..n + few], front);
+    fir_sums::convolve(taps, input, back);
+    let clouded = count_clouded(n, finite_run(samples), input);
+    keep_newest(samples, &line, input);
     clouded
 }
 
-// The first k samples, one after the other.
+// Samples one after the other: how many answers are Clouded.
 fn pass_some(
     taps: &[f64],
     samples: &mut [f64],
-    n: usize,
-    held: usize,
-    window: usize,
+    counts: &mut Counts,
     input: &[f64],
-    k: usize,
     output: &mut [f64],
-) -> PassResult
-    requires { (fits max_taps (lent_taps taps.now samples.old n held window) ≡ true)
-        × (check_taps max_taps (lent_taps taps.now samples.old n held window) ≡ true)
-        × (k ≤ length input.now) × (length input.now ≤ length output.old) }
-    ensures { ran_block result.clouded (lent_taps taps.now samples.new n result.held window) output.new
-        ≡ block (fir max_taps binary64) (lent_taps taps.now samples.old n held window)
-        (take k input.now) output.old }
+) -> usize
+    requires fit { fits max_taps (lent_view taps.now samples.old counts.old) ≡ true }
+    requires good { check_taps max_taps (lent_view taps.now samples.old counts.old) ≡ true }
+    requires room { length input.now ≤ length output.old }
+    ensures few { result ≤ length input.now }
+    ensures run { ran_block result (lent_view taps.now samples.new counts.new) output.new
+        ≡ block (fir max_taps binary64) (lent_view taps.now samples.old counts.old) input.now output.old }
 {
-    let mut held = held;
-    let mut clouded: usize = 0;
-    let mut i: usize = 0;
-    while i < k {
-        let s = fir_step::update(taps, samples, n, held, window, input[i]);
-        held = s.held;
-        let answer = s.answer;
-        output[i] = runs::number_of(answer);
-        if runs::is_clouded(answer) {
-            clouded += 1;
-        }
-        i += 1;
+    let mut clouded = 0;
+    for (i, x) in input.iter().enumerate() {
+        let answer = fir_step::update(taps, samples, counts, *x);
+        output[i] = answer.number();
+        clouded += usize::from(answer.is_clouded());
     }
-    PassResult { clouded, held }
+    clouded
 }
 
-// What a refused block returns: it counts 0 and leaves the held count.
-fn refused(refusal: u8, held: usize) -> BlockResult
-    ensures { (result.refusal ≡ refusal) × (result.clouded ≡ 0) × (result.held ≡ held) }
+// A block that is not refused: how many answers are Clouded.
+#[tactic(auto, unfolding(fir_theory::specs::Lent::fits, fir_theory::specs::Fir::check_taps))]
+fn pass(
+    taps: &[f64],
+    samples: &mut [f64],
+    counts: &mut Counts,
+    input: &[f64],
+    output: &mut [f64],
+) -> usize
+    requires fit { fits max_taps (lent_view taps.now samples.old counts.old) ≡ true }
+    requires good { check_taps max_taps (lent_view taps.now samples.old counts.old) ≡ true }
+    requires room { length input.now ≤ length output.old }
+    ensures { ran_block result (lent_view taps.now samples.new counts.new) output.new
+        ≡ block (fir max_taps binary64) (lent_view taps.now samples.old counts.old) input.now output.old }
 {
-    BlockResult {
-        refusal,
-        clouded: 0,
-        held,
+    let n = counts.length;
+    let first = input.len().min(n - counts.held);
+    let front = pass_some(taps, samples, counts, &input[..first], output);
+    if first == input.len() {
+        return front;
     }
+    let rest = pass_all(
+        &taps[..n],
+        &mut samples[..n],
+        &input[first..],
+        &mut output[first..input.len()],
+    );
+    front + rest
 }
 
-// A block of samples, each as `fir_step::update` has it: the answers in the first places of the output, later places left. An
-// output shorter than the input is refused by 5.
+// A block of samples, each as `fir_step::update` has it: how many answers are Clouded. The answers stand in the first places of
+// the output, and later places are left. An output shorter than the input is refused by 5.
 pub fn block(
     taps: &[f64],
     samples: &mut [f64],
-    length: usize,
-    held: usize,
-    window: usize,
+    counts: &mut Counts,
     input: &[f64],
     output: &mut [f64],
-) -> BlockResult
+) -> Result<usize, Refusal>
     ensures { record {
-      refusal = result.refusal;
-      clouded = result.clouded;
-      state = lent_taps taps.now samples.new length result.held window;
+      refusal = refusal_in result;
+      clouded = count_in result;
+      state = lent_view taps.now samples.new counts.new;
       output = output.new;
     }
-        ≡ lent_block (fir max_taps binary64) (fits max_taps) (lent_taps taps.now samples.old length held window) input.now
+        ≡ lent_block (fir max_taps binary64) (fits max_taps) (lent_view taps.now samples.old counts.old) input.now
         output.old }
 {
-    let refusal = fir_step::refusal_of(taps, samples, length, held, window);
-    if refusal != 0 {
-        return refused(refusal, held);
-    }
-    if output.len() < input.len() {
-        return refused(runs::SHORT_OUTPUT, held);
-    }
-    let missing = length - held;
-    let all = input.len();
-    let first = if all < missing { all } else { missing };
-    let front = pass_some(taps, samples, length, held, window, input, first, output);
-    if all <= first {
-        return BlockResult {
-            refusal: 0,
-            clouded: front.clouded,
-            held: front.held,
-        };
-    }
-    let rest = pass_all(taps, samples, length, input, first, output);
-    BlockResult {
-        refusal: 0,
-        clouded: front.clouded + rest,
-        held: front.held,
-    }
+    fir_step::refusal_of(taps, samples, *counts)?;
+    runs::refuse_if(output.len() < input.len(), Refusal::ShortOutput)?;
+    Ok(pass(taps, samples, counts, input, output))
 }

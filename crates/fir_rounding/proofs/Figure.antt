@@ -18,7 +18,7 @@ use Rattle.exact.specs.Scaled.{IsValue, scale}
 use Rattle.exact.proofs.Whole.{abs-mul}
 use Rattle.fir_theory.specs.Fir.{TapsRecord, taps_of, next, held_of, sum, value, mark, clouding, check_taps, fir}
 use Rattle.fir_theory.proofs.Laws.{length-pushed, held_next, check-next}
-use Rattle.fir_theory.proofs.Forgetting.{sum-taps}
+use Rattle.fir_theory.proofs.Laws.{sum-taps}
 use Rattle.fir_rounding.specs.Figure.{most_taps, least_count, greatest_count, figure_bits, Tap, Count, Taken, exact_sum, EachWithin, Figure}
 use Rattle.fir_rounding.proofs.Sum.{AtMost, total-error, total-differs}
 

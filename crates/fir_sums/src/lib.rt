@@ -1,135 +1,85 @@
 // Many outputs of a FIR at once. Each output is its own sum, from tap 0 up; sixteen sums go side by side, and no sum is
-// regrouped. They are no part of what is promised.
+// regrouped. They are no part of what is promised. Taps, samples and output are slices of three owners, so they stand in no struct.
 #![tactic(auto)]
 
-ghost use Rattle.std.specs.Prelude.{◌≡◌, ◌+◌, ◌≤◌, ◌<◌, length};
+ghost use Rattle.std.specs.Prelude.{◌≡◌, ◌+◌, ◌-◌, ◌≤◌, ◌++◌, length, drop};
 ghost use Rattle.std.specs.Float.{binary64};
-ghost use Rattle.lists.specs.Lists.{spliced};
 ghost use Rattle.fir_theory.specs.Convolution.{sum_at, sums_from, scaled, convolvable, convolved};
 
-// t × x[k + j] is added to sum j.
-fn add_scaled(sums: &mut [f64], t: f64, x: &[f64], k: usize)
-    requires { k + length sums.old ≤ length x.now }
-    ensures { sums.new ≡ scaled binary64 sums.old t x.now k }
+// How many sums go side by side.
+const WIDTH: usize = 16;
+
+// t × sample j is added to sum j.
+fn add_scaled(sums: &mut [f64], t: f64, x: &[f64])
+    requires { length sums.old ≤ length x.now }
+    ensures { sums.new ≡ scaled binary64 sums.old t x.now 0 }
 {
-    let mut j: usize = 0;
-    while j < sums.len() {
-        sums[j] = sums[j] + t * x[k + j];
-        j += 1;
+    for (j, sum) in sums.iter_mut().enumerate() {
+        *sum += t * x[j];
     }
 }
 
-// The outputs at places at to at + 15, each over the first n taps.
-fn sixteen(taps: &[f64], n: usize, x: &[f64], at: usize) -> [f64; 16]
-    requires { (n ≤ at + 1) × (n ≤ length taps.now) × (at + 16 ≤ length x.now) }
-    ensures { result ≡ sums_from binary64 taps.now n x.now at 16 }
+// The outputs at the first places behind as many samples as there are taps.
+fn side_by_side(taps: &[f64], x: &[f64]) -> [f64; WIDTH]
+    requires { length taps.now + WIDTH ≤ length x.now }
+    ensures { result ≡ sums_from binary64 taps.now (length taps.now) x.now (length taps.now) WIDTH }
 {
-    let mut sums = [0.0; 16];
-    let mut i: usize = 0;
-    while i < n {
-        let k = at - i;
-        let t = taps[i];
-        add_scaled(&mut sums, t, x, k);
-        i += 1;
+    let mut sums = [0.0; WIDTH];
+    for (i, t) in taps.iter().enumerate() {
+        add_scaled(&mut sums, *t, &x[taps.len() - i..]);
     }
     sums
 }
 
-// The output at one place.
-fn one(taps: &[f64], n: usize, x: &[f64], at: usize) -> f64
-    requires { (n ≤ at + 1) × (n ≤ length taps.now) × (at < length x.now) }
-    ensures { result ≡ sum_at binary64 taps.now n x.now at }
+// The output at the place of the last sample. Alone a sum is faster as a fold than as `side_by_side` with a width of one
+// (docs/SPEED.md).
+fn one(taps: &[f64], x: &[f64]) -> f64
+    requires { length x.now ≡ length taps.now }
+    ensures { result ≡ sum_at binary64 taps.now (length taps.now) x.now (length taps.now - 1) }
 {
-    let mut sum = 0.0;
-    let mut i: usize = 0;
-    while i < n {
-        sum = sum + taps[i] * x[at - i];
-        i += 1;
-    }
-    sum
+    taps.iter()
+        .zip(x.iter().rev())
+        .fold(0.0, |sum, (t, y)| sum + *t * *y)
 }
 
-// Puts numbers into the output from a place on.
-fn put(output: &mut [f64], to: usize, ys: &[f64])
-    requires { to + length ys.now ≤ length output.old }
-    ensures { output.new ≡ spliced output.old to ys.now }
+// Sixteen outputs at a time, as long as there are sixteen: how many are done. The groups are counted: what is written through
+// `chunks_exact_mut` is not known behind the loop. Inline: `convolve` alone calls it, and a call takes stack.
+#[inline(always)]
+fn wide(taps: &[f64], x: &[f64], output: &mut [f64]) -> usize
+    requires { length taps.now + length output.old ≤ length x.now }
+    ensures within { result ≤ length output.old }
+    ensures sums { output.new
+        ≡ sums_from binary64 taps.now (length taps.now) x.now (length taps.now) result ++ drop result output.old }
 {
-    let mut j: usize = 0;
-    while j < ys.len() {
-        output[to + j] = ys[j];
-        j += 1;
+    let groups = output.len() / WIDTH;
+    for k in 0..groups {
+        let at = WIDTH * k;
+        output[at..at + WIDTH].copy_from_slice(&side_by_side(taps, &x[at..]));
     }
+    WIDTH * groups
 }
 
-// Sixteen outputs at a time, as long as there are sixteen: how many are done.
-fn wide(
-    taps: &[f64],
-    n: usize,
-    x: &[f64],
-    at: usize,
-    output: &mut [f64],
-    to: usize,
-    m: usize,
-) -> usize
-    requires { (n ≤ at + 1) × (n ≤ length taps.now) × (at + m ≤ length x.now) × (to + m ≤ length output.old) }
-    ensures { (result ≤ m) × (output.new ≡ spliced output.old to (sums_from binary64 taps.now n x.now at result)) }
+// The outputs one by one.
+fn narrow(taps: &[f64], x: &[f64], output: &mut [f64])
+    requires { length taps.now + length output.old ≤ length x.now }
+    ensures { output.new ≡ sums_from binary64 taps.now (length taps.now) x.now (length taps.now) (length output.old) }
 {
-    let mut j: usize = 0;
-    while 16 <= m - j {
-        let y = sixteen(taps, n, x, at + j);
-        put(output, to + j, &y);
-        j += 16;
-    }
-    j
-}
-
-// The m outputs from the sample at `at` on, one by one.
-fn narrow(taps: &[f64], n: usize, x: &[f64], at: usize, output: &mut [f64], to: usize, m: usize)
-    requires { (n ≤ at + 1) × (n ≤ length taps.now) × (at + m ≤ length x.now) × (to + m ≤ length output.old) }
-    ensures { output.new ≡ spliced output.old to (sums_from binary64 taps.now n x.now at m) }
-{
-    let mut j: usize = 0;
-    while j < m {
-        output[to + j] = one(taps, n, x, at + j);
-        j += 1;
+    for (j, y) in output.iter_mut().enumerate() {
+        *y = one(taps, &x[j + 1..j + 1 + taps.len()]);
     }
 }
 
-// The outputs at places at to at + m - 1 of x, put into the output from place `to` on.
-fn outputs(taps: &[f64], n: usize, x: &[f64], at: usize, output: &mut [f64], to: usize, m: usize)
-    requires { (n ≤ at + 1) × (n ≤ length taps.now) × (at + m ≤ length x.now) × (to + m ≤ length output.old) }
-    ensures { output.new ≡ spliced output.old to (sums_from binary64 taps.now n x.now at m) }
+// The outputs at the places of x behind as many samples as there are taps, and true; or false and the output as it was, where
+// a place is missing. The answer is a bool: no value and no number comes with it.
+pub fn convolve(taps: &[f64], x: &[f64], output: &mut [f64]) -> bool
+    ensures done { result ≡ convolvable (length taps.now) taps.now x.now (length taps.now) output.old 0 (length output.old) }
+    ensures output { output.new
+        ≡ convolved binary64 (length taps.now) taps.now x.now (length taps.now) output.old 0 (length output.old) }
 {
-    let j = wide(taps, n, x, at, output, to, m);
-    narrow(taps, n, x, at + j, output, to + j, m - j);
-}
-
-// The outputs of the first n taps at places at to at + m - 1 of x, put into the output from place `to` on, and true; or false
-// and the output as it was, where a place is missing or there are not n samples before place `at`.
-pub fn convolve(
-    taps: &[f64],
-    n: usize,
-    x: &[f64],
-    at: usize,
-    output: &mut [f64],
-    to: usize,
-    m: usize,
-) -> bool
-    ensures { (result ≡ convolvable n taps.now x.now at output.old to m)
-        × (output.new ≡ convolved binary64 n taps.now x.now at output.old to m) }
-{
-    if n > at {
+    if !lists::within(taps.len(), output.len(), x.len()) {
         return false;
     }
-    if n > taps.len() {
-        return false;
-    }
-    if !lists::within(at, m, x.len()) {
-        return false;
-    }
-    if !lists::within(to, m, output.len()) {
-        return false;
-    }
-    outputs(taps, n, x, at, output, to, m);
+    let done = wide(taps, x, output);
+    narrow(taps, &x[done..], &mut output[done..]);
     true
 }

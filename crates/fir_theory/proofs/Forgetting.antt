@@ -20,7 +20,7 @@ use Rattle.runs.proofs.Forgetting as runs
 use Rattle.runs.proofs.Forgetting.{Simulates}
 use Rattle.fir_theory.specs.Fir.{TapsRecord, taps_of, next, held_of, clouding, sum, value, mark, check_taps, cleared_taps, fir}
 use Rattle.fir_theory.specs.Plain.{used, plain_fir, FirForgets}
-use Rattle.fir_theory.proofs.Laws.{take-pushed, length-pushed, sizes, check-next, check-cleared, sum-none}
+use Rattle.fir_theory.proofs.Laws.{take-pushed, length-pushed, sizes, check-next, check-cleared, sum-taps}
 
 -- ---- lists
 
@@ -31,14 +31,7 @@ newest-more (suc n) k x xs kept h e =
     let a : take n (take (min (suc n) k) xs) ≡ take (min n k) xs = take_min n (min (suc n) k) xs ∙ ap (λ (j : ℕ). take j xs) m in
     simp unary_clauses (ap (λ (t : List Float). x ∷ t) (sym a ∙ ap (take n) e ∙ take-take n (suc n) kept (omega arith)))
 
--- ---- a sum ends where the taps end, and where the samples do
-
-pub sum-taps : (f : Format) (y : Float) (n : ℕ) (ts xs : List Float) → length xs ≤ n → sum f y (take n ts) xs ≡ sum f y ts xs
-unfolding sum
-sum-taps f y n ts [] h = sum-none f (take n ts) y ∙ sym (sum-none f ts y)
-sum-taps f y n [] (x ∷ xs) h = rw (take-nil n)
-sum-taps f y zero (t ∷ ts) (x ∷ xs) h = absurd (omega arith)
-sum-taps f y (suc n) (t ∷ ts) (x ∷ xs) h = sum-taps f (add f y (mul f t x)) n ts xs (omega arith)
+-- ---- a sum ends where the taps end
 
 sum-used : (f : Format) (y : Float) (ts xs : List Float) → sum f y ts (used ts xs) ≡ sum f y ts xs
 unfolding sum

@@ -1,146 +1,140 @@
--- A long block from a full record: what the delay line holds, the two stretches of outputs, and the newest samples.
-use mathlib.Core.Path.{◌≡◌, refl, sym, ap, ap₂, ◌∙◌, subst}
-use mathlib.Core.List.{List, [], ◌∷◌, ◌++◌, reverse_aux, reverse_aux-append, append_assoc}
+-- A long block: the numbers answered are sums at places of a list of samples that stands oldest first, and the newest samples after them.
+use mathlib.Core.Path.{◌≡◌, refl, sym, ap, ap₂, ◌∙◌}
+use mathlib.Core.List.{List, [], ◌∷◌, ◌++◌, reverse}
 use Prim.Native.Nat.{ℕ, zero, suc, ◌+◌, ◌-◌, ◌<◌, ◌≤◌}
-use native.Mathlib.Nat.{sub-zero}
+use native.Mathlib.Nat.{add-zero, suc-sub-suc, sub-zero}
 use native.Mathlib.Omega.{arith}
-use lib.ListN.{length, get_or, take, drop, length-drop, length-append, length-reverse_aux, take-append-drop, get_or-append}
-use lib.Seq.{take_all, get_or-take, get_or-drop, get_or-append-add, length-take-le, take_at}
-use lib.Ieee.{Float, nan, Format}
-use Rattle.lists.specs.Lists.{spliced}
-use Rattle.lists.proofs.Places.{part_length}
-use Rattle.fir_theory.specs.Convolution.{sums_from}
-use borrow.Author.Tests.{lt-ltb, le-ltb}
-use Rattle.fir_theory.specs.Blocks.{back_from, newest_of}
-use Rattle.fir_theory.proofs.Full.{Past, past_after, back-past, values, values-at}
+use borrow.Rule.Slice.PartMut.{put_mid}
+use lib.ListN.{length, get_or, take, drop, length-take, length-drop, length-append, take-append-drop, get_or-append}
+use lib.Seq.{get_or-append-add, length-take-le, take_at, take-append-le}
+use lib.Ieee.{Float, nan, Format, add, mul}
+use Rattle.std.proofs.lemmas.List.{length-reverse, get_or-reverse, reverse-reverse, reverse-append}
+use Rattle.std.proofs.lemmas.Slice.{between_is, take-put_mid}
+use Rattle.limits.specs.Zero.{plus_zero}
+use Rattle.fir_theory.specs.Convolution.{sum_at, sums_from}
+use Rattle.fir_theory.specs.Fir.{sum}
+use Rattle.fir_theory.specs.Blocks.{values}
+use Rattle.fir_theory.proofs.Laws.{sum-none, sum-taps, take_more}
+use Rattle.fir_theory.proofs.Full.{reverse-on}
 
-pub back_at : (n : ℕ) (x : List Float) (k j : ℕ) → j < n → get_or (back_from n x k) j nan ≡ get_or x (k - j) nan
-unfolding back_from
-back_at zero x k j h = absurd (omega arith)
-back_at (suc n) x k zero h = rw sub-zero
-back_at (suc n) x k (suc j) h = back_at n x (k - 1) j (omega arith) ∙ ap (λ (z : ℕ). get_or x z nan) (omega arith)
+-- ---- a history, newest first, at place k of a list that stands oldest first
+abbrev Past : List Float → ℕ → List Float → ℕ → Type 0
+Past X k L n = (i : ℕ) → i < n → get_or X (k - i) nan ≡ get_or L i nan
 
-pub back-length : (n : ℕ) (x : List Float) (k : ℕ) → length (back_from n x k) ≡ n
-unfolding back_from
-back-length zero x k = refl
-back-length (suc n) x k = ap suc (back-length n x (k - 1))
+past-turn : (X : List Float) (k : ℕ) (L : List Float) (n : ℕ) (x : Float) → get_or X (suc k) nan ≡ x → Past X k L n → Past X (suc k) (x ∷ L) n
+past-turn X k L n x e p zero h = rw sub-zero e
+past-turn X k L n x e p (suc i) h = rw suc-sub-suc (p i (omega arith))
 
-values-append : (f : Format) (ts : List Float) (n : ℕ) (L a b : List Float) → values f ts n L (a ++ b) ≡ values f ts n L a ++ values f ts n (reverse_aux a L) b
-unfolding values
-values-append f ts n L [] b = refl
-values-append f ts n L (x ∷ a) b = ap₂ ◌∷◌ refl (values-append f ts n (x ∷ L) a b)
+module _ (f : Format) (ts : List Float) where
+  -- one product more
+  sum-take : (y : Float) (us L : List Float) (n : ℕ) → n < length us → n < length L → sum f y us (take (suc n) L)
+      ≡ add f (sum f y us (take n L)) (mul f (get_or us n nan) (get_or L n nan))
+  unfolding sum
+  sum-take y [] L n h k = absurd (omega arith)
+  sum-take y (u ∷ us) [] n h k = absurd (omega arith)
+  sum-take y (u ∷ us) (x ∷ L) zero h k = sum-none f us (add f y (mul f u x))
+  sum-take y (u ∷ us) (x ∷ L) (suc n) h k = sum-take (add f y (mul f u x)) us L n (omega arith) (omega arith)
 
--- what the two copies make of a list of numbers
-pub line-is : (s input line₀ line₁ line : List Float) (n from m : ℕ) → from + m ≤ length input → line₁ ≡ back_from n s (n - 1) ++ drop n line₀ → line
-    ≡ spliced line₁ n (take m (drop from input))
-    → take (n + m) line ≡ back_from n s (n - 1) ++ take m (drop from input)
-unfolding spliced
-line-is s input line₀ line₁ line n from m h e g =
-    let A = back_from n s (n - 1) in
-    let ys = take m (drop from input) in
-    let la : length A ≡ n = back-length n s (n - 1) in
-    let ly = part_length input from m h in
-    let front : take n line₁ ≡ A = ap (take n) e ∙ take_at A (drop n line₀) n la in
-    let w : line ≡ (A ++ ys) ++ drop (n + length ys) line₁ = g ∙ ap (λ (l : List Float). l ++ (ys ++ drop (n + length ys) line₁)) front
-    ∙ sym (append_assoc A ys (drop (n + length ys) line₁)) in
-    ap (take (n + m)) w ∙ take_at (A ++ ys) (drop (n + length ys) line₁) (n + m) (length-append A ys ∙ ap₂ ◌+◌ la ly)
+  sum-at : (X : List Float) (k : ℕ) (L : List Float) (n : ℕ) → n ≤ length ts → n ≤ length L → Past X k L n
+      → sum_at f ts n X k ≡ sum f plus_zero ts (take n L)
+  unfolding sum_at
+  sum-at X k L zero h l p = sym (sum-none f ts plus_zero)
+  sum-at X k L (suc n) h l p =
+      ap₂ (λ (a b : Float). add f a (mul f (get_or ts n nan) b)) (sum-at X k L n (omega arith) (omega arith) (λ i g. p i (omega arith))) (p n (omega arith))
+      ∙ sym (sum-take plus_zero ts L n (omega arith) (omega arith))
 
--- the delay line: the n held samples, oldest first, and the first e of the samples xs, which stand in the input from a place on
-module _ (f : Format) (ts : List Float) (n : ℕ) (s input line : List Float) (from e : ℕ) (some : 1 ≤ n) (held : n ≤ length s) (enough : n ≤ length ts)
-    (start : from ≤ length input) (most : e ≤ length (drop from input)) (filled : take (n + e) line ≡ back_from n s (n - 1) ++ take e (drop from input)) where
-  at-line : (k : ℕ) → k < n + e → get_or line k nan ≡ get_or (back_from n s (n - 1) ++ take e (drop from input)) k nan
-  at-line k h = sym (get_or-take (n + e) line k nan h) ∙ ap (λ (l : List Float). get_or l k nan) filled
+  values-at : (n : ℕ) (X : List Float) (k : ℕ) (L xs : List Float) → n ≤ length ts → n ≤ length L → Past X k L n
+      → ((j : ℕ) → j < length xs → get_or X (suc k + j) nan ≡ get_or xs j nan)
+      → sums_from f ts n X (suc k) (length xs) ≡ values f ts n L xs
+  unfolding sums_from values
+  values-at n X k L [] h l p q = refl
+  values-at n X k L (x ∷ xs) h l p q =
+      let t = past-turn X k L n x (ap (λ (z : ℕ). get_or X z nan) (sym (add-zero (suc k))) ∙ q 0 (omega arith)) p in
+      ap₂ ◌∷◌ (sum-at X (suc k) (x ∷ L) n h (omega arith) t)
+      (values-at n X (suc k) (x ∷ L) xs h (omega arith) t (λ j g. ap (λ (z : ℕ). get_or X z nan) (omega arith) ∙ q (suc j) (omega arith)))
 
-  old : Past line (n - 1) s n
-  old i h =
-      at-line (n - 1 - i) (omega arith) ∙ get_or-append (back_from n s (n - 1)) (take e (drop from input)) nan (n - 1 - i)
-      (omega (arith, back-length n s (n - 1)))
-      ∙ back_at n s (n - 1) (n - 1 - i) (omega arith) ∙ ap (λ (z : ℕ). get_or s z nan) (omega arith)
+-- ---- the values
+module _ (f : Format) (ts : List Float) (n : ℕ) where
+  values-append : (L a b : List Float) → values f ts n L (a ++ b) ≡ values f ts n L a ++ values f ts n (reverse a ++ L) b
+  unfolding values
+  values-append L [] b = refl
+  values-append L (x ∷ a) b =
+      ap₂ ◌∷◌ refl (values-append (x ∷ L) a b ∙ ap (λ (l : List Float). values f ts n (x ∷ L) a ++ values f ts n l b) (sym (reverse-on x a L)))
 
-  new : (j : ℕ) → j < e → get_or line (n + j) nan ≡ get_or (take e (drop from input)) j nan
-  new j h = at-line (n + j) (omega arith)
-      ∙ ap (λ (z : ℕ). get_or (back_from n s (n - 1) ++ take e (drop from input)) (z + j) nan) (sym (back-length n s (n - 1)))
-      ∙ get_or-append-add (back_from n s (n - 1)) (take e (drop from input)) j nan
+  -- the newest n of the history are enough
+  values-newest : (K L xs : List Float) → take n K ≡ take n L → values f ts n K xs ≡ values f ts n L xs
+  unfolding values
+  values-newest K L [] e = refl
+  values-newest K L (x ∷ xs) e = let t = take_more n x K L e in
+      ap₂ ◌∷◌ (ap (sum f plus_zero ts) t) (values-newest (x ∷ K) (x ∷ L) xs t)
 
-  few : length (take e (drop from input)) ≡ e
-  few = length-take-le e (drop from input) most
+  -- and the first n taps
+  pub values-taps : (L xs : List Float) → values f (take n ts) n L xs ≡ values f ts n L xs
+  unfolding values
+  values-taps L [] = refl
+  values-taps L (x ∷ xs) =
+      ap₂ ◌∷◌ (sum-taps f plus_zero n ts (take n (x ∷ L)) (simp length-take (omega arith))) (values-taps (x ∷ L) xs)
 
-  -- the first stretch
-  pub first-stretch : sums_from f ts n line n e ≡ values f ts n s (take e (drop from input))
-  first-stretch =
-      let q : suc (n - 1) ≡ n = omega arith in
-      ap₂ (λ (k m : ℕ). sums_from f ts n line k m) (sym q) (sym few)
-      ∙ values-at f ts n line (n - 1) s (take e (drop from input)) enough held old
-      (λ j h. ap (λ (z : ℕ). get_or line (z + j) nan) q ∙ new j (omega (arith, few)))
+  -- ---- n samples, newest first
+  module _ (some : 1 ≤ n) (enough : n ≤ length ts) where
+    -- the sums at the places behind them are the values
+    pub stretch : (S xs : List Float) → length S ≡ n → sums_from f ts n (reverse S ++ xs) n (length xs) ≡ values f ts n S xs
+    stretch S xs l =
+        let q : suc (n - 1) ≡ n = omega arith in
+        let r = length-reverse S in
+        ap (λ (k : ℕ). sums_from f ts n (reverse S ++ xs) k (length xs)) (sym q)
+        ∙ values-at f ts n (reverse S ++ xs) (n - 1) S xs enough (omega (arith, l))
+        (λ i g. get_or-append (reverse S) xs nan (n - 1 - i) (omega (arith, r, l)) ∙ get_or-reverse S (n - 1 - i) nan (omega (arith, l))
+        ∙ ap (λ (z : ℕ). get_or S z nan) (omega (arith, l)))
+        (λ j g. ap (λ (z : ℕ). get_or (reverse S ++ xs) z nan) (omega (arith, r, l)) ∙ get_or-append-add (reverse S) xs j nan)
 
-  -- the history after those
-  then : Past line (n - 1 + e) (reverse_aux (take e (drop from input)) s) n
-  then =
-      let q : suc (n - 1) ≡ n = omega arith in
-      subst (λ (m : ℕ). Past line (n - 1 + m) (reverse_aux (take e (drop from input)) s) n) few
-      (past_after line (n - 1) s n (take e (drop from input)) old (λ j h. ap (λ (z : ℕ). get_or line (z + j) nan) q ∙ new j (omega (arith, few))))
+    -- those of more samples, the first n of which are enough of a history
+    pub farther : (S input : List Float) → n ≤ length input → sums_from f ts n input n (length input - n)
+        ≡ values f ts n (reverse (take n input) ++ S) (drop n input)
+    farther S input h =
+        let P = reverse (take n input) in
+        let lp : length P ≡ n = length-reverse (take n input) ∙ length-take-le n input h in
+        let whole : reverse P ++ drop n input ≡ input = ap (λ (l : List Float). l ++ drop n input) (reverse-reverse (take n input))
+        ∙ take-append-drop n input in
+        ap₂ (λ (X : List Float) (m : ℕ). sums_from f ts n X n m) (sym whole) (sym (length-drop n input)) ∙ stretch P (drop n input) lp
+        ∙ values-newest P (P ++ S) (drop n input) (sym (take-append-le n P S (omega (arith, lp))))
 
-  longer : (l : List Float) → n ≤ length (reverse_aux l s)
-  longer l = rw (length-reverse_aux l s) (omega arith)
+    -- all of them
+    pub both-stretches : (S input : List Float) {a b : List Float} (m : ℕ) → a ≡ values f ts n S (take m input)
+        → b ≡ values f ts n (reverse (take m input) ++ S) (drop m input) → a ++ b ≡ values f ts n S input
+    both-stretches S input m ea eb =
+        ap₂ ◌++◌ ea eb ∙ sym (values-append S (take m input) (drop m input)) ∙ ap (values f ts n S) (take-append-drop m input)
 
-  pub newest-of-few : e ≡ length (drop from input) → back_from n line (n - 1 + e) ≡ take n (reverse_aux (drop from input) s)
-  newest-of-few h =
-      let all : take e (drop from input) ≡ drop from input = take_all e (drop from input) (omega arith) in
-      back-past line (n - 1 + e) (reverse_aux (take e (drop from input)) s) n (longer (take e (drop from input))) then
-      ∙ ap (λ (l : List Float). take n (reverse_aux l s)) all
+-- ---- the line: what is put behind the held samples
+pub line-is : (S xs line₀ : List Float) {a b : List Float} (k : ℕ) → k ≡ length xs → a ≡ reverse S → b ≡ xs
+    → take (length S + length xs) (put_mid (length S) k (a ++ drop (length S) line₀) b) ≡ reverse S ++ xs
+line-is S xs line₀ {a} {b} k ek ea eb =
+    let r = length-reverse S in
+    let n : length S + length xs ≡ length S + length b = ap (λ (l : List Float). length S + length l) (sym eb) in
+    take-put_mid (length S) k (a ++ drop (length S) line₀) b (length S + length xs) n
+    (omega (arith, length-append a (drop (length S) line₀), ap length ea, r))
+    ∙ ap₂ ◌++◌ (take_at a (drop (length S) line₀) (length S) (ap length ea ∙ r) ∙ ea) eb
 
-  -- ---- where there are n samples or more: the second stretch looks at the input alone
-  module _ (wide : e ≡ n) where
-    beyond : Past input (from + n - 1) (reverse_aux (take e (drop from input)) s) n
-    beyond i h =
-        let a : from + n - 1 - i ≡ from + (n - 1 - i) = omega arith in
-        let b : n + (n - 1 - i) ≡ n - 1 + e - i = omega arith in
-        ap (λ (z : ℕ). get_or input z nan) a ∙ sym (get_or-drop from input (n - 1 - i) nan)
-        ∙ sym (get_or-take e (drop from input) (n - 1 - i) nan (omega arith))
-        ∙ sym (new (n - 1 - i) (omega arith))
-        ∙ ap (λ (z : ℕ). get_or line z nan) b ∙ then i h
+-- ---- the newest samples
+reverse-drop : (k : ℕ) (X : List Float) → reverse (drop k X) ≡ take (length X - k) (reverse X)
+reverse-drop k X =
+    let e = ap reverse (sym (take-append-drop k X)) ∙ reverse-append (take k X) (drop k X) in
+    sym (ap (take (length X - k)) e ∙ take_at (reverse (drop k X)) (reverse (take k X)) (length X - k) (length-reverse (drop k X) ∙ length-drop k X))
 
-    left : (j : ℕ) → j < length (drop n (drop from input)) → get_or input (suc (from + n - 1) + j) nan ≡ get_or (drop n (drop from input)) j nan
-    left j h =
-        let a : suc (from + n - 1) + j ≡ from + (n + j) = omega arith in
-        ap (λ (z : ℕ). get_or input z nan) a ∙ sym (get_or-drop from input (n + j) nan) ∙ sym (get_or-drop n (drop from input) j nan)
+-- from a line of n samples and fewer more
+newest-few : (n : ℕ) (S xs : List Float) → length S ≡ n → reverse (drop (length xs) (reverse S ++ xs)) ≡ take n (reverse xs ++ S)
+newest-few n S xs l =
+    let c : length (reverse S ++ xs) - length xs ≡ n = omega (arith, length-append (reverse S) xs, length-reverse S, l) in
+    reverse-drop (length xs) (reverse S ++ xs) ∙ ap₂ take c (reverse-append (reverse S) xs ∙ ap (λ (l : List Float). reverse xs ++ l) (reverse-reverse S))
 
-    pub second-stretch : sums_from f ts n input (from + e) (length (drop from input) - e)
-        ≡ values f ts n (reverse_aux (take e (drop from input)) s) (drop e (drop from input))
-    second-stretch =
-        let a : from + e ≡ suc (from + n - 1) = omega arith in
-        let b : length (drop from input) - e ≡ length (drop n (drop from input)) = omega (arith, length-drop n (drop from input)) in
-        ap₂ (λ (k m : ℕ). sums_from f ts n input k m) a b
-        ∙ values-at f ts n input (from + n - 1) (reverse_aux (take e (drop from input)) s) (drop n (drop from input)) enough
-        (longer (take e (drop from input))) beyond left
-        ∙ ap (λ (k : ℕ). values f ts n (reverse_aux (take e (drop from input)) s) (drop k (drop from input))) (sym wide)
+-- of the line's places
+pub newest-line : (n : ℕ) (S xs line : List Float) → length S ≡ n → take (n + length xs) line ≡ reverse S ++ xs
+    → reverse (take (n + length xs - length xs) (drop (length xs) line)) ≡ take n (reverse xs ++ S)
+newest-line n S xs line l e =
+    ap reverse (between_is line (length xs) (n + length xs) ∙ ap (drop (length xs)) e) ∙ newest-few n S xs l
 
-    pub newest-of-many : back_from n input (from + length (drop from input) - 1) ≡ take n (reverse_aux (drop from input) s)
-    newest-of-many =
-        let L = reverse_aux (take e (drop from input)) s in
-        let p = past_after input (from + n - 1) L n (drop n (drop from input)) beyond left in
-        let a : from + n - 1 + length (drop n (drop from input)) ≡ from + length (drop from input) - 1 = omega (arith, length-drop n (drop from input)) in
-        let b : reverse_aux (drop n (drop from input)) L ≡ reverse_aux (drop from input) s =
-        ap (λ (k : ℕ). reverse_aux (drop k (drop from input)) L) (sym wide) ∙ sym (reverse_aux-append (take e (drop from input)) (drop e (drop from input)) s)
-        ∙ ap (λ (l : List Float). reverse_aux l s) (take-append-drop e (drop from input)) in
-        back-past input (from + length (drop from input) - 1) (reverse_aux (drop from input) s) n (longer (drop from input))
-        (subst (λ (l : List Float). Past input (from + length (drop from input) - 1) l n) b
-        (subst (λ (k : ℕ). Past input k (reverse_aux (drop n (drop from input)) L) n) a p))
-
-  -- both stretches are the values
-  pub both-stretches : (ys : List Float) → ys ≡ values f ts n (reverse_aux (take e (drop from input)) s) (drop e (drop from input))
-      → sums_from f ts n line n e ++ ys ≡ values f ts n s (drop from input)
-  both-stretches ys g =
-      ap₂ ◌++◌ first-stretch g ∙ sym (values-append f ts n s (take e (drop from input)) (drop e (drop from input)))
-      ∙ ap (values f ts n s) (take-append-drop e (drop from input))
-
--- ---- which of the two the newest are copied from
-pub newest-line : (n : ℕ) (line input : List Float) (m : ℕ) {l : List Float} (r : List Float) → m < n → l ≡ back_from n line (n + m - 1) ++ r → l
-    ≡ newest_of n line input m ++ r
-unfolding newest_of
-newest-line n line input m r h e = rw (lt-ltb m n h) e
-
-pub newest-input : (n : ℕ) (line input : List Float) (m : ℕ) {l : List Float} (r : List Float) → n ≤ m → l ≡ back_from n input (length input - 1) ++ r → l
-    ≡ newest_of n line input m ++ r
-unfolding newest_of
-newest-input n line input m r h e = rw (le-ltb m n h) e
+-- from n samples or more
+pub newest-many : (n : ℕ) (S xs : List Float) → n ≤ length xs → reverse (drop (length xs - n) xs) ≡ take n (reverse xs ++ S)
+newest-many n S xs h =
+    let c : length xs - (length xs - n) ≡ n = omega arith in
+    reverse-drop (length xs - n) xs ∙ ap (λ (z : ℕ). take z (reverse xs)) c ∙ sym (take-append-le n (reverse xs) S (omega (arith, length-reverse xs)))

@@ -1,17 +1,11 @@
 -- What the parts of a long block hand to one another. It is no part of what is promised.
-use Rattle.std.specs.Prelude.{ℕ, zero, suc, ◌+◌, ◌-◌, min, ◌≡◌, cond, true, List, [], ◌∷◌, ◌++◌, ltb, length, get_or, take, drop, Float}
-use Rattle.std.specs.Float.{nan, binary64}
+use Rattle.std.specs.Prelude.{ℕ, suc, ◌+◌, min, cond, List, [], ◌∷◌, ltb, take, Float}
+use Rattle.std.specs.Float.{Format}
 use Rattle.std.specs.Float.Ieee.Scale.{finite}
+use Rattle.limits.specs.Zero.{plus_zero}
 use Rattle.runs.specs.Refusals.{no_refusal}
-use Rattle.runs.specs.Runs.{Block, clouded_in, written, answers, after}
-use Rattle.fir_theory.specs.Fir.{TapsRecord, check_taps, fir}
-use Rattle.limits.specs.Limits.{max_taps}
-use Rattle.fir_theory.specs.Lent.{lent_taps}
-
--- n samples from place k backward
-unfoldable pub back_from : ℕ → List Float → ℕ → List Float
-back_from zero x k = []
-back_from (suc n) x k = get_or x k nan ∷ back_from n x (k - 1)
+use Rattle.runs.specs.Runs.{Block}
+use Rattle.fir_theory.specs.Fir.{TapsRecord, sum}
 
 -- how many samples at the front are finite
 unfoldable pub finite_run : List Float → ℕ
@@ -27,19 +21,12 @@ unfoldable pub clouds_from : ℕ → ℕ → List Float → ℕ
 clouds_from n age [] = 0
 clouds_from n age (x ∷ xs) = cond (ltb (age_after n age x) n) 1 0 + clouds_from n (age_after n age x) xs
 
--- the newest n samples after m more, which end the input: a delay line holds the n before them and, where they are fewer than n, these too
-unfoldable pub newest_of : ℕ → List Float → List Float → ℕ → List Float
-newest_of n line input m = cond (ltb m n) (back_from n line (n + m - 1)) (back_from n input (length input - 1))
+-- the numbers answered to samples by n taps, after a history that stands newest first
+module _ (f : Format) (ts : List Float) (n : ℕ) where
+  unfoldable pub values : List Float → List Float → List Float
+  values L [] = []
+  values L (x ∷ xs) = sum f plus_zero ts (take n (x ∷ L)) ∷ values (x ∷ L) xs
 
 -- an accepted block by its parts
 abbrev pub ran_block : ℕ → TapsRecord → List Float → Block TapsRecord
 ran_block clouded r output = record { refusal = no_refusal; clouded = clouded; state = r; output = output }
-
--- What the samples from place `from` of an input on make of n taps and as many held samples, whatever the record's window code: how many answers are Clouded,
--- the samples after them, and the output
-abbrev pub FullRun : List Float → List Float → ℕ → List Float → ℕ → List Float → ℕ → List Float → List Float → Type 0
-FullRun taps samples n input from output clouded samples' output' =
-    (window : ℕ) → check_taps max_taps (lent_taps taps samples n n window) ≡ true
-    → (clouded ≡ clouded_in (answers (fir max_taps binary64) (lent_taps taps samples n n window) (drop from input)))
-    × (lent_taps taps samples' n n window ≡ after (fir max_taps binary64) (lent_taps taps samples n n window) (drop from input))
-    × (output' ≡ take from output ++ written (answers (fir max_taps binary64) (lent_taps taps samples n n window) (drop from input)) (drop from output))

@@ -13,15 +13,15 @@ use Rattle.elementary.specs.Exponential.{exp_of}
 use Rattle.logarithm.specs.Logarithm.{ln_of}
 
 -- |a| is below 1; a NaN's is not
-unfoldable pub magnitude_below_one : Float → Bool
+abbrev pub magnitude_below_one : Float → Bool
 magnitude_below_one a = Ieee.lt (abs_of a) one
 
 -- a + (a × s) × P, s = a × a
-unfoldable pub sinh_by_series : Float → Float
+abbrev pub sinh_by_series : Float → Float
 sinh_by_series a = a ⊕ (a ⊗ (a ⊗ a)) ⊗ sinh_series (a ⊗ a)
 
 -- the old rule, 01's
-unfoldable pub sinh_by_exp : Float → Float
+abbrev pub sinh_by_exp : Float → Float
 sinh_by_exp a = (exp_of a ⊖ exp_of (neg a)) ⊗ half
 
 unfoldable pub sinh_of : Float → Float

@@ -10,6 +10,7 @@ use logarithm::ln;
 use scalar::abs;
 use series::sinh_series;
 
+#[tactic(auto, unfolding(crate::specs::Hyperbolic::sinh_of))]
 pub fn sinh(a: f64) -> f64
     ensures { result ≡ sinh_of a }
 {
@@ -20,6 +21,7 @@ pub fn sinh(a: f64) -> f64
     (exp(a) - exp(-a)) * 0.5
 }
 
+#[tactic(auto, unfolding(crate::specs::Hyperbolic::cosh_of))]
 pub fn cosh(a: f64) -> f64
     ensures { result ≡ cosh_of a }
 {
@@ -27,6 +29,7 @@ pub fn cosh(a: f64) -> f64
 }
 
 // ln(x + √(x * x + 1))
+#[tactic(auto, unfolding(crate::specs::Hyperbolic::arcsinh_of))]
 pub fn arcsinh(x: f64) -> f64
     ensures { result ≡ arcsinh_of x }
 {

@@ -147,3 +147,5 @@ div-correct f (fin s m e) (fin t (suc n) d) =
     subst (λ (x : Float). Nearest f (fraction (m * up e * down d) (suc n * up d * down e)) (unlike s t) x)
     (sym (at_suc Float n (cond (eqb m 0) nan (inf (unlike s t))) r))
     (round-nearest f (unlike s t) (m * up e * down d) (suc n * up d * down e) (mul-pos (mul-pos (zero-lt-suc n) (up_pos d)) (down_pos e)))
+
+pub ruleset correct_rules = (add-correct, sub-correct, mul-correct, div-correct)

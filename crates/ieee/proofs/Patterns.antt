@@ -9,11 +9,9 @@ use mathlib.Core.Bool.{Bool, true, false, not, cond, true≢false}
 use lib.IntN.{pos}
 use lib.Dec.{T, leb, ltb, eqb, eqb→eq, not_T, T_not, lt→ltb, ltb→lt, nltb→le, nleb→lt}
 use lib.Arith.{lt→nleb, le→nltb}
-use lib.Ieee.{Float, nan, inf, fin, binary64, up, down, odd, of_fields, of_bits, lt, ne, is_nan, nan_bits}
-use lib.Ieee.Bits.{is_false, cond_no, of_bits-fits, nan_bits_is, nan_bits_above}
-use lib.Ieee.Compare.{differs_from_itself, nan_differs}
+use lib.Ieee.{Float, nan, inf, fin, binary64, up, down, odd, of_fields, of_bits, lt, nan_bits}
+use lib.Ieee.Bits.{is_false, cond_no, of_bits-fits, nan_bits_above}
 use lib.Ieee.Exact.{HasValue, odd_sign}
-use borrow.Author.Tests.{lt-ltb}
 use lib.Ieee.Fits.{down_pos, up_pos}
 use Rattle.ieee.specs.Nearest.{Nearest, root}
 use Rattle.ieee.specs.Sqrt.{Sqrt}
@@ -211,12 +209,6 @@ neither (fin false (suc m) d) h g =
     absurd (T_not (ltb (0 * 1 * down d) (suc m * up d * 1)) g
     (lt→ltb (0 * 1 * down d) (suc m * up d * 1) (omega (arith, some-pos m (up d) 1 (up_pos d) (zero-lt-suc 0)))))
 
-pub above_no_nan : (x : Float) → T (lt (fin false 0 (pos 0)) x) → T (not (is_nan x))
-unfolding lt is_nan
-above_no_nan nan h = absurd h
-above_no_nan (inf s) h = tt
-above_no_nan (fin s m e) h = tt
-
 pub no-nan-made : (b r : ℕ)
     → (b < 2 ^ 52 → Rooted (b * 2 ^ 52) r)
     → (2 ^ 52 ≤ b → Rooted ((2 ^ 52 + b % 2 ^ 52) * 2 ^ (b / 2 ^ 52 + 51)) r)
@@ -226,22 +218,3 @@ no-nan-made b r s g = go (ltb b (2 ^ 52)) (ltb→lt b (2 ^ 52)) (nltb→le b (2 
     go : (t : Bool) → (T t → b < 2 ^ 52) → (T (not t) → 2 ^ 52 ≤ b) → T (not (nan_bits binary64 r))
     go true l h = no_nan r (b * 2 ^ 52) (s (l tt))
     go false l h = no_nan r ((2 ^ 52 + b % 2 ^ 52) * 2 ^ (b / 2 ^ 52 + 51)) (g (h tt))
-
--- ---- every pattern: a NaN's, or that of a number
-is-nan : (x : Float) → is_nan x ≡ true → x ≡ nan
-unfolding is_nan
-is-nan nan e = refl
-is-nan (inf s) e = absurd (true≢false (sym e))
-is-nan (fin s m d) e = absurd (true≢false (sym e))
-
-pub nan_pattern : (b : ℕ) → 2047 * 2 ^ 52 < b % 2 ^ 63 → of_bits binary64 b ≡ nan
-nan_pattern b l = is-nan (of_bits binary64 b) (sym (nan_bits_is binary64 b) ∙ nan_bits_above binary64 b ∙ lt-ltb (2047 * 2 ^ 52) (b % 2 ^ 63) l)
-
-pub differs-nan : (x : Float) → ne x x ≡ true → x ≡ nan
-differs-nan x t = differs_from_itself x (subst T (sym t) tt)
-
-pub same_number : (x : Float) → ne x x ≡ false → T (not (is_nan x))
-unfolding is_nan
-same_number nan t = absurd (true≢false (sym nan_differs ∙ t))
-same_number (inf s) t = tt
-same_number (fin s m e) t = tt

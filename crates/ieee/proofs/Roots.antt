@@ -38,9 +38,6 @@ module _ (S X u a : ℕ) where
   pub big : S ≤ X * X → X * u ≤ a → S * (u * u) ≤ a * a
   big h g = le_trans (mul-le-mul_right (u * u) h) (le_trans (le_of_eq (mul-mul-mul_comm X X u u)) (mul-le-mul g g))
 
-  pub small : X * X ≤ S → a ≤ X * u → a * a ≤ S * (u * u)
-  small h g = le_trans (mul-le-mul g g) (le_trans (le_of_eq (mul-mul-mul_comm X u X u)) (mul-le-mul_right (u * u) h))
-
   pub big_lt : S < X * X → X * u ≤ a → 0 < u → S * (u * u) < a * a
   big_lt h g z = lt_of_lt_of_le (mul-lt-mul_of_pos_right h (mul-pos z z)) (le_trans (le_of_eq (mul-mul-mul_comm X X u u)) (mul-le-mul g g))
 

@@ -24,16 +24,15 @@ fn nearest_root(m: u64) -> u64
     requires { (2 ^ 52 ≤ m) × (m ≤ 2 ^ 54 - 2) }
     ensures { NearestRoot m result }
 {
-    let mut q: u64 = LEADING;
-    let mut y: u64 = m - LEADING;
-    let mut w: u64 = LEADING;
-    while w > 1 {
-        w = w >> 1;
-        y = y + y;
+    let mut q = LEADING;
+    let mut y = m - LEADING;
+    for place in (0..52u32).rev() {
+        let w = 1 << place;
+        y += y;
         let t = q + q + w;
         if t <= y {
-            y = y - t;
-            q = q + w;
+            y -= t;
+            q += w;
         }
     }
     if q < y { q + 1 } else { q }
@@ -53,7 +52,7 @@ fn root_of_digits(m: u64, e: u64) -> u64
 }
 
 // The bit pattern of the root of the finite number above zero whose bit pattern is b. A subnormal's digits are first
-// brought up to 53.
+// brought up to 53, one by one, while they are fewer: a processor may count leading zeros by a multiplication.
 fn root_bits(b: u64) -> u64
     requires { (0 < b) × (b < 2047 * 2 ^ 52) }
     ensures subnormal { b < 2 ^ 52 → Rooted (b * 2 ^ 52) result }
@@ -63,10 +62,10 @@ fn root_bits(b: u64) -> u64
         return root_of_digits(LEADING + b % LEADING, (b >> 52) + 51);
     }
     let mut m = b;
-    let mut e: u64 = 52;
+    let mut e = 52;
     while m < LEADING {
-        m = m + m;
-        e = e - 1;
+        m += m;
+        e -= 1;
     }
     root_of_digits(m, e)
 }
@@ -78,11 +77,10 @@ pub fn sqrt(x: f64) -> f64
     ensures correctly_rounded { Sqrt binary64 x result }
 {
     if x < 0.0 {
-        let infinity = f64::from_bits(INFINITY);
-        return infinity - infinity;
+        return f64::NAN;
     }
     if 0.0 < x {
-        let b: u64 = f64::to_bits(x);
+        let b = x.to_bits();
         if b < INFINITY {
             return f64::from_bits(root_bits(b));
         }

@@ -1,20 +1,35 @@
 -- 02's Q-1: a whole pulse filtered by a channel class of SAE J211-1, forward and then backward. The names are the standard's: a0, a1 and a2 weigh the
 -- samples and b1 and b2 the earlier outputs, and all five products are added. (01's sections name them the other way round, and subtract the feedback.)
 -- Each operation rounds once.
-use Rattle.std.specs.Prelude.{ℕ, Bool, cond, not, ◌||◌, List, [], ◌∷◌, reverse, ◌==◌, Float}
+use Rattle.std.specs.Prelude.{◌≡◌, ℕ, Result, IfOk, Bool, cond, not, ◌||◌, List, [], ◌∷◌, reverse, ◌==◌, Float}
 use Rattle.std.specs.Float.Ieee.{neg, le}
 use Rattle.limits.specs.Zero.{plus_zero}
 use Rattle.scalar.specs.Operators.{◌⊕◌, ◌⊖◌, ◌⊗◌, ◌⊘◌, bits, nat}
 use Rattle.scalar.specs.Constants.{one, two, half, pi}
 use Rattle.elementary.specs.Trigonometric.{tan_of}
 use Rattle.runs.specs.Refusals.{no_refusal, invalid_frequency, invalid_sample_rate, invalid_class}
+use Rattle.runs.specs.View.{refusal_in}
+use Rattle.runs.specs.declared.refusal.Refusal.{Refusal}
 use Rattle.design_checks.specs.Checks.{rate_refused}
+use Rattle.j211.specs.declared.Class.{Class}
+use Rattle.j211.specs.declared.Class.TheVariants.{C60, C180, C600, C1000}
 use Rattle.j211.specs.declared.Coefficients.{Coefficients}
 use Rattle.j211.specs.declared.History.{History}
 
 -- ---- a class C of 60, 180, 600 or 1000
 unfoldable pub is_class : ℕ → Bool
 is_class c = c == 60 || (c == 180 || (c == 600 || c == 1000))
+
+-- the number of a class of the code
+abbrev pub number : Class → ℕ
+number C60 = 60
+number C180 = 180
+number C600 = 600
+number C1000 = 1000
+
+-- what the code takes a number for: the class of that number, or 21
+abbrev pub Names : ℕ → Result Class Refusal → Type 0
+Names c r = (refusal_in r ≡ cond (is_class c) no_refusal invalid_class) × IfOk r (λ k. number k ≡ c)
 
 -- C × 2.0775
 unfoldable pub cutoff_of : ℕ → Float

@@ -1,10 +1,7 @@
--- Overwriting: loops that write one place after the other. Folding: loops that go through a list once. Copies: what a copy is by the lengths.
--- Splices: numbers put into a list. Places: a list by its places. Joined: lists one behind the other. Table: a rule of all entries of a table.
--- Each: what holds of each element. Tests: `&&`, `||` and `cond`.
+-- Overwriting: loops that write one place after the other. Folding: loops that go through a list once. Places: a list by its places.
+-- Joined: lists one behind the other. Table: a rule of all entries of a table. Each: what holds of each element. Tests: `&&` and `||`.
 pub mod Overwriting
 pub mod Folding
-pub mod Copies
-pub mod Splices
 pub mod Places
 pub mod Joined
 pub mod Table

@@ -5,8 +5,8 @@ use Prim.Native.Nat.{ℕ, ◌+◌, ◌<◌, ◌≤◌}
 use native.Mathlib.Nat.{zero-add}
 use native.Mathlib.Numerals.{add-one}
 use native.Mathlib.Omega.{arith}
-use lib.ListN.{length, get_or, set, take, drop, length-set, length-map, drop_of_length-le, get_or-map}
-use lib.Seq.{drop-cons, get_or_at, get_or-take, length-take-le, take_all, sets, sets-eq, paste, paste-zero, paste-suc, length_paste_head}
+use lib.ListN.{length, get_or, set, take, drop, length-set, drop_of_length-le, get_or-map}
+use lib.Seq.{drop-cons, get_or_at, get_or-take, take_all, sets, sets-eq, paste, paste-zero, paste-suc, length_paste_head}
 
 -- before place at + i is written: the first i of the n elements of ys stand from place `at` on, and the other places are as in l₀
 pub record Overwriting {A : Type 0} (l₀ : List A) (at : ℕ) (ys : List A) (n : ℕ) (l : List A) (i : ℕ) : Type 0 where
@@ -50,9 +50,6 @@ module _ {A : Type 0} {l₀ : List A} where
 
 -- ---- a list whose first n elements are mapped in place
 module _ {A : Type 0} (g : A → A) {l₀ : List A} where
-  pub map-start : (n : ℕ) → n ≤ length l₀ → Overwriting l₀ 0 (map g (take n l₀)) n l₀ 0
-  map-start n h = overwrite-start 0 (length-map (take n l₀) g ∙ length-take-le n l₀ h) (omega arith)
-
   pub map-turn : {l : List A} {n : ℕ} (i : ℕ) {v : A} (d : A) → i < n → v ≡ g (get_or l i d) → Overwriting l₀ 0 (map g (take n l₀)) n l i
       → Overwriting l₀ 0 (map g (take n l₀)) n (set l i v) (i + 1)
   map-turn {l} {n} i d h e p =

@@ -1,6 +1,6 @@
 -- A finite float above zero as m * 2 ^ e with 1 ≤ m < 2.
 use Rattle.std.proofs.Common.{◌≡◌, ℕ, zero, suc, ◌+◌, ◌-◌, ◌*◌, ◌/◌, ◌%◌, ◌^◌, ◌<◌, ◌≤◌, true, false, ◌&&◌, T, eqb, ltb, leb, ℤ, pos, negsuc, ◌+ℤ◌, sym, refl}
-use Rattle.std.proofs.Common.{ap, ◌∙◌, subst, inl, inr, true≢false, le_trans, le_of_eq, lt_of_lt_of_le, le_of_suc-le-suc, lt_of_le_of_lt, le_of_lt, lt_irrefl}
+use Rattle.std.proofs.Common.{ap, ◌∙◌, subst, inl, inr, true≢false, le_trans, le_of_eq, lt_of_lt_of_le, lt_of_le_of_lt, le_of_lt, lt_irrefl}
 use Rattle.std.proofs.Common.{mul-le-mul_right, mod-lt, mod-eq_of_lt, zero-lt-suc, mul_assoc, add_comm, le_antisymm, mul-le-mul_left, mul-lt-mul_of_pos_right}
 use Rattle.std.proofs.Common.{mul-pos, one-mul, lt_of_not-le, zero-mul, mul-one, mul_right_comm, not-le_of_lt, arith, lit≤, le→leb, ltb→lt, lt→ltb, pow_pos}
 use Rattle.std.proofs.Common.{pow_mono, pow-add, shl_lt}
@@ -194,19 +194,19 @@ parts-high x f p z =
     (omega arith) (omega arith)
     ∙ pair refl (minus-same (k + 52) 1074 (W / 2 ^ 52) 1023 (omega arith))
 
--- ---- the loop of `lift`
-pub start : (t : ℕ) → t ≡ t * 2 ^ 0
-start t = sym (mul-one t)
+-- ---- a subnormal's digits t, brought up to 53: r is the place of the first of them
+module _ (t r : ℕ) (first : 2 ^ r ≤ t) (last : t < 2 * 2 ^ r) (low : t < 2 ^ 52) where
+  pub lift-fits : r ≤ 52
+  lift-fits = elim (or_lt r 52) [ inl h ↦ absurd (not-le_of_lt low (le_trans (pow_mono h) first)) | inr h ↦ le_of_lt h ]
 
-pub doubled : (q t j : ℕ) → q ≡ t * 2 ^ j → q * 2 ≡ t * 2 ^ (j + 1)
-doubled q t j e = ap (λ (z : ℕ). z * 2) e ∙ mul_assoc t (2 ^ j) 2 ∙ ap (λ (z : ℕ). t * z) (sym (pow-add 2 j 1))
+  all : 2 ^ r * 2 ^ (52 - r) ≡ 2 ^ 52
+  all = let e : r + (52 - r) ≡ 52 = (let h = lift-fits in omega arith) in sym (pow-add 2 r (52 - r)) ∙ ap (λ (z : ℕ). 2 ^ z) e
 
-pub few-turns : (q t j : ℕ) → 0 < t → q ≡ t * 2 ^ j → q < 2 ^ 53 → j ≤ 53
-few-turns q t j h e l =
-    le_of_suc-le-suc
-    (lt_of_not-le (λ (k : 54 ≤ j). lt_irrefl q (lt_of_lt_of_le l
-    (le_trans (pow_mono {i = 53} {j = j} (le_trans (lit≤ tt) k))
-    (le_trans (le_of_eq (sym (one-mul (2 ^ j)))) (le_trans (mul-le-mul_right (2 ^ j) h) (le_of_eq (sym e))))))))
+  pub lift-least : 2 ^ 52 ≤ t * 2 ^ (52 - r)
+  lift-least = le_trans (le_of_eq (sym all)) (mul-le-mul_right (2 ^ (52 - r)) first)
+
+  pub lift-most : t * 2 ^ (52 - r) < 2 ^ 53
+  lift-most = lt_of_lt_of_le (mul-lt-mul_of_pos_right last (pow_pos (52 - r))) (le_of_eq (mul_assoc 2 (2 ^ r) (2 ^ (52 - r)) ∙ ap (λ (z : ℕ). 2 * z) all))
 
 -- ---- the parts, said without digits
 -- 2 ^ (E + s) is 2 ^ E times 2 ^ s

@@ -1,18 +1,16 @@
 -- What the tests of `ln` leave: a finite number above 0.
-use Rattle.std.proofs.Common.{◌≡◌, zero, suc, ◌+◌, ◌*◌, Bool, true, false, not, T, sym, refl, ◌∙◌, true≢false, le_trans, le-add_right, zero-lt-suc, mul-pos}
+use Rattle.std.proofs.Common.{◌≡◌, zero, suc, ◌+◌, ◌*◌, Bool, true, false, not, T, sym, ◌∙◌, true≢false, le_trans, le-add_right, zero-lt-suc, mul-pos}
 use Rattle.std.proofs.Common.{zero-mul, not-le_of_lt, lt→ltb, pow_pos, ltb-false}
 use lib.Ieee as Ieee
 use lib.Ieee.{Float, nan, inf, fin, binary64, up, down, lt, eq, of_bits}
 use lib.Ieee.Fits.{up_pos}
 use lib.Ieee.Positive.{positive}
+use Rattle.scalar.proofs.NaN.{constants}
 
-pub inf-is : Ieee.div binary64 (of_bits binary64 0x3FF0000000000000) (of_bits binary64 0) ≡ inf false
-unfolding Ieee.div of_bits
-inf-is = refl
-
-pub left-positive : (x : Float) → Ieee.ne x x ≡ false → lt x (of_bits binary64 0) ≡ false → eq x (of_bits binary64 0) ≡ false → eq x (inf false) ≡ false
+pub left-positive : (x : Float) → Ieee.is_nan x ≡ false → lt x (of_bits binary64 0) ≡ false → eq x (of_bits binary64 0) ≡ false
+    → eq x (of_bits binary64 0x7FF0000000000000) ≡ false
     → T (positive x)
-unfolding Ieee.ne lt eq of_bits
+unfolding Ieee.is_nan lt eq of_bits
 left-positive nan n l z i = absurd (true≢false n)
 left-positive (inf true) n l z i = absurd (true≢false l)
 left-positive (inf false) n l z i = absurd (true≢false i)
@@ -30,3 +28,5 @@ unfolding Ieee.is_nan
 positive-number nan p = absurd p
 positive-number (inf s) p = tt
 positive-number (fin s m e) p = tt
+
+pub ruleset ln_rules = (constants, left-positive)

@@ -1,21 +1,41 @@
--- The code's types at f64, read field by field as the records of cascade_theory. They are no part of what is promised.
-use Rattle.std.specs.Prelude.{List, Float}
+-- The code's types at f64, read as the records of cascade_theory. They are no part of what is promised.
+use Rattle.std.specs.Prelude.{List, slice_index_or, Float, Option, Some, None, true, false}
+use Rattle.std.specs.Float.{nan}
 use Rattle.sections.specs.View.{section_view}
 use Rattle.cascade_theory.specs.Skew.{FourRecord, LineRecord, DrainedRecord, RanRecord}
-use Rattle.pipeline.specs.declared.Four.{Four}
+use Rattle.sections.specs.declared.section.Section.{Section}
 use Rattle.pipeline.specs.declared.Line.{Line}
-use Rattle.pipeline.specs.declared.DrainResult.{DrainResult}
-use Rattle.pipeline.specs.declared.RunResult.{RunResult}
 
-abbrev pub four_view : Four → FourRecord
-four_view c = record { s0 = section_view c.s0; s1 = section_view c.s1; s2 = section_view c.s2; s3 = section_view c.s3 }
+-- what is read past the end of an array, which one of four never is
+abbrev pub no_section : Section
+no_section = record { b0 = nan; b1 = nan; b2 = nan; a1 = nan; a2 = nan; w1 = nan; w2 = nan }
+
+abbrev pub four_view : List Section → FourRecord
+four_view ss = record {
+  s0 = section_view (slice_index_or ss 0 no_section);
+  s1 = section_view (slice_index_or ss 1 no_section);
+  s2 = section_view (slice_index_or ss 2 no_section);
+  s3 = section_view (slice_index_or ss 3 no_section);
+}
 
 abbrev pub line_view : Line → LineRecord
-line_view l = record { four = four_view l.four; y0 = l.y0; y1 = l.y1; y2 = l.y2 }
+line_view l = record {
+  four = four_view l.sections;
+  y0 = slice_index_or l.waiting 0 nan;
+  y1 = slice_index_or l.waiting 1 nan;
+  y2 = slice_index_or l.waiting 2 nan;
+}
 
-abbrev pub drained_view : DrainResult → DrainedRecord
-drained_view d = record { four = four_view d.four; y0 = d.y0; y1 = d.y1; y2 = d.y2 }
+-- the last three numbers, and the sections after them
+abbrev pub drained_view : List Float × List Section → DrainedRecord
+drained_view (ys, ss) = record {
+  four = four_view ss;
+  y0 = slice_index_or ys 0 nan;
+  y1 = slice_index_or ys 1 nan;
+  y2 = slice_index_or ys 2 nan;
+}
 
--- with the output after it
-abbrev pub ran_view : RunResult → List Float → RanRecord
-ran_view r output = record { four = four_view r.four; done = r.done; output = output }
+-- of a run of these sections, with the output after it
+abbrev pub ran_view : List Section → Option (List Section) → List Float → RanRecord
+ran_view ss (Some after) output = record { four = four_view after; done = true; output = output }
+ran_view ss None output = record { four = four_view ss; done = false; output = output }

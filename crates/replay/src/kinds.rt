@@ -1,134 +1,112 @@
-// The kinds of request by number, how many there were of each, and the report.
-use std::io;
+// The kinds of request.
+use exports::Function;
+use std::fmt;
 
-// The cascade's: its designs, steps, blocks and resets.
-pub(crate) const LOWPASS: usize = 0;
+#[derive(Clone, Copy, Debug, PartialEq, Eq)]
+pub(crate) enum Kind {
+    // The cascade's: its designs, steps, blocks and resets.
+    LowPass,
+    HighPass,
+    BandPass,
+    Chebyshev1,
+    Chebyshev2,
+    CascadeStep,
+    CascadeBlock,
+    CascadeReset,
+    // The tap record's: its design, ready-made taps, steps, blocks and resets.
+    Fir,
+    Taps,
+    FirStep,
+    FirBlock,
+    FirReset,
+    // A whole pulse through a channel class.
+    J211,
+    // A channel of the rival's block.
+    Rival,
+    // An elementary function at a number.
+    Sqrt,
+    Sin,
+    Cos,
+    Tan,
+    Exp,
+    Ln,
+    Sinh,
+    Cosh,
+    Pow10,
+}
 
-pub(crate) const HIGHPASS: usize = 1;
+impl Kind {
+    // The kinds by number, from 0 on.
+    pub const ALL: [Kind; 24] = [
+        Kind::LowPass,
+        Kind::HighPass,
+        Kind::BandPass,
+        Kind::Chebyshev1,
+        Kind::Chebyshev2,
+        Kind::CascadeStep,
+        Kind::CascadeBlock,
+        Kind::CascadeReset,
+        Kind::Fir,
+        Kind::Taps,
+        Kind::FirStep,
+        Kind::FirBlock,
+        Kind::FirReset,
+        Kind::J211,
+        Kind::Rival,
+        Kind::Sqrt,
+        Kind::Sin,
+        Kind::Cos,
+        Kind::Tan,
+        Kind::Exp,
+        Kind::Ln,
+        Kind::Sinh,
+        Kind::Cosh,
+        Kind::Pow10,
+    ];
+}
 
-pub(crate) const BANDPASS: usize = 2;
+// A number that no kind has.
+#[derive(Clone, Copy, Debug, PartialEq, Eq)]
+pub(crate) struct UnknownKind(u64);
 
-pub(crate) const CHEBYSHEV1: usize = 3;
+impl TryFrom<u64> for Kind {
+    type Error = UnknownKind;
 
-pub(crate) const CHEBYSHEV2: usize = 4;
-
-pub(crate) const CSTEP: usize = 5;
-
-pub(crate) const CBLOCK: usize = 6;
-
-pub(crate) const CRESET: usize = 7;
-
-// The tap record's: its design, ready-made taps, steps, blocks and resets.
-pub(crate) const FIR: usize = 8;
-
-pub(crate) const TAPS: usize = 9;
-
-pub(crate) const FSTEP: usize = 10;
-
-pub(crate) const FBLOCK: usize = 11;
-
-pub(crate) const FRESET: usize = 12;
-
-// A whole pulse through a channel class.
-pub(crate) const J211: usize = 13;
-
-// A channel of the rival's block.
-pub(crate) const RIVAL: usize = 14;
-
-// The elementary functions, of which pow10 is the last.
-pub(crate) const SQRT: usize = 15;
-
-pub(crate) const SIN: usize = 16;
-
-pub(crate) const COS: usize = 17;
-
-pub(crate) const TAN: usize = 18;
-
-pub(crate) const EXP: usize = 19;
-
-pub(crate) const LN: usize = 20;
-
-pub(crate) const SINH: usize = 21;
-
-pub(crate) const COSH: usize = 22;
-
-// How many kinds there are.
-pub(crate) const KINDS: usize = 24;
-
-// The bytes of a kind's name, with a space behind it.
-const WIDTH: usize = 11;
-
-// A count for each kind, and behind them one for all.
-pub(crate) const COUNTS: usize = KINDS + 1;
-
-// One more request of the kind, and one more that agreed where it is alike. No list is so long that a count wraps.
-pub(crate) fn count(
-    counts: &mut [u64; COUNTS],
-    agreed: &mut [u64; COUNTS],
-    kind: usize,
-    alike: bool,
-) {
-    if kind < KINDS {
-        counts[kind] = std::num::wrapping_add_u64(counts[kind], 1);
-        counts[KINDS] = std::num::wrapping_add_u64(counts[KINDS], 1);
-        agreed[kind] = std::num::wrapping_add_u64(agreed[kind], alike as u64);
-        agreed[KINDS] = std::num::wrapping_add_u64(agreed[KINDS], alike as u64);
+    fn try_from(number: u64) -> Result<Kind, UnknownKind> {
+        Kind::ALL
+            .get(number as usize)
+            .copied()
+            .ok_or(UnknownKind(number))
     }
 }
 
-// Name i of a row of names.
-fn print_nth(rt: &impl Print, names: &[u8], i: usize) -> io::Result<()> {
-    if i < KINDS {
-        let from = i * WIDTH;
-        let end = from + WIDTH;
-        if end <= names.len() {
-            return rt.write_all(&names[from..end]);
-        }
+impl fmt::Display for Kind {
+    fn fmt<W: fmt::Write>(&self, f: &mut fmt::Formatter<W>) -> fmt::Result {
+        f.pad(match self {
+            Kind::LowPass => "lowpass",
+            Kind::HighPass => "highpass",
+            Kind::BandPass => "bandpass",
+            Kind::Chebyshev1 => "chebyshev1",
+            Kind::Chebyshev2 => "chebyshev2",
+            Kind::CascadeStep => "cstep",
+            Kind::CascadeBlock => "cblock",
+            Kind::CascadeReset => "creset",
+            Kind::Fir => "fir",
+            Kind::Taps => "taps",
+            Kind::FirStep => "fstep",
+            Kind::FirBlock => "fblock",
+            Kind::FirReset => "freset",
+            Kind::J211 => "j211",
+            Kind::Rival => "rival",
+            Kind::Sqrt => "sqrt",
+            Kind::Sin => "sin",
+            Kind::Cos => "cos",
+            Kind::Tan => "tan",
+            Kind::Exp => "exp",
+            Kind::Ln => "ln",
+            Kind::Sinh => "sinh",
+            Kind::Cosh => "cosh",
+            Kind::Pow10 => "pow10",
+        })
     }
-    Ok(())
-}
-
-fn print_name(rt: &impl Print, kind: usize) -> io::Result<()> {
-    if kind < FIR {
-        print_nth(
-            rt,
-            b"lowpass    highpass   bandpass   chebyshev1 chebyshev2 cstep      cblock     creset     ",
-            kind,
-        )
-    } else if kind < SQRT {
-        print_nth(
-            rt,
-            b"fir        taps       fstep      fblock     freset     j211       rival      ",
-            kind - FIR,
-        )
-    } else {
-        print_nth(
-            rt,
-            b"sqrt       sin        cos        tan        exp        ln         sinh       cosh       pow10      ",
-            kind - SQRT,
-        )
-    }
-}
-
-// Of one kind: how many requests, and how many agree.
-fn print_kind(rt: &impl Print, kind: usize, asked: u64, agreed: u64) -> io::Result<()> {
-    print_name(rt, kind)?;
-    println!(rt; "{asked}, {agreed} agree")
-}
-
-// A line of all, and one of each kind.
-pub(crate) fn report(
-    rt: &impl Print,
-    counts: &[u64; COUNTS],
-    agreed: &[u64; COUNTS],
-) -> io::Result<()> {
-    let all = counts[KINDS];
-    let all_agreed = agreed[KINDS];
-    println!(rt; "{all} requests, {all_agreed} agree with the oracle")?;
-    let mut i: usize = 0;
-    while i < KINDS {
-        print_kind(rt, i, counts[i], agreed[i])?;
-        i += 1;
-    }
-    Ok(())
 }

@@ -3,67 +3,46 @@
 // makes the file.
 #![tactic(auto)]
 
-mod cascades;
-mod compare;
-mod forms;
-mod functions;
+mod asked;
+mod designs;
+mod filters;
 mod kinds;
 mod list;
 mod pulses;
+mod records;
 mod rival;
-mod taps;
+mod stored;
+mod tallies;
 
-use cascade::Cascade;
-use fir::TapRecord;
-use kinds::COUNTS;
+use filters::Filters;
 use std::io::{BufReader, Read};
 use std::{fs, io};
+use tallies::Tallies;
 
-// Whether a request that is on no filter is answered as stored: a function, a pulse or a channel, by its kind.
-fn on_no_filter(kind: usize, asked: &[u64], stored: &[u64]) -> bool {
-    let mut alike = functions::request(kind, asked, stored);
-    pulses::request(kind, asked, stored, &mut alike);
-    rival::request(kind, asked, stored, &mut alike);
-    alike
-}
-
-// Replays the list, and counts the requests of each kind and those that agreed. Answers whether the list is whole: so many
-// requests as it says, and no more. Each request goes to every group of kinds, of which one takes it.
-fn replay(list: &mut impl Read, counts: &mut [u64; COUNTS], agreed: &mut [u64; COUNTS]) -> bool {
-    let requests = list::read_word(list);
-    let mut cascade = Cascade::blank();
-    let mut filter = TapRecord::blank();
-    let mut good = requests.good;
-    let mut left = requests.value;
-    while left > 0 && good {
-        left -= 1;
-        let mut asked = [0u64; list::MOST];
-        let mut stored = [0u64; list::MOST];
-        let h = list::read_request(list, &mut asked, &mut stored);
-        let asked = list::front(&asked, h.asked);
-        let stored = list::front(&stored, h.stored);
-        let mut alike = on_no_filter(h.kind, asked, stored);
-        cascade = cascades::request(h.kind, cascade, asked, stored, &mut alike);
-        filter = taps::request(h.kind, filter, asked, stored, &mut alike);
-        kinds::count(counts, agreed, h.kind, alike);
-        good = h.good;
+// Replays the list, and tallies the requests of each kind and those that agreed. None where the list is not whole: it has so many
+// requests as it says, and no more.
+fn replay(list: &mut impl Read) -> Option<Tallies> {
+    let mut filters = Filters::blank();
+    let mut tallies = Tallies::new();
+    for _ in 0..list::read_word(list)? {
+        let mut asked = [0; list::MOST];
+        let mut stored = [0; list::MOST];
+        let request = list::read_request(list, &mut asked, &mut stored)?;
+        tallies.count(request.kind, filters.agrees(request));
     }
-    let more = list::read_word(list);
-    good & !more.good
-}
-
-// What the system says of an error, without the number that stands behind it.
-fn without_number(text: &str) -> &str {
-    match text.split_once(" (os error ") {
-        Some((words, _)) => words,
-        None => text,
+    match list::read_word(list) {
+        Some(_) => None,
+        None => Some(tallies),
     }
 }
 
-// Says on standard error why a file does not open.
+// Says on standard error why a file does not open: what the system says, without the number that stands behind it. `vectors` has the
+// same: a crate for the few lines that the two programs share would be no plainer.
 fn fail(rt: &(impl Eprint + AllocGlobal), path: &str, error: io::Error) -> io::Result<()> {
     let text = format!(in rt.alloc(); "{error}")?;
-    let words = without_number(text.as_str());
+    let words = text
+        .split_once(" (os error ")
+        .map_or(text.as_str(), |(words, _)| words);
     eprintln!(rt; "{path}: {words}")
 }
 
@@ -74,11 +53,8 @@ fn main(rt: HostRuntime) -> io::Result<()> {
         Err(error) => return fail(&rt, path, error),
     };
     let mut list = BufReader::new(rt.alloc(), file)?;
-    let mut counts = [0u64; COUNTS];
-    let mut agreed = [0u64; COUNTS];
-    if replay(&mut list, &mut counts, &mut agreed) {
-        kinds::report(&rt, &counts, &agreed)
-    } else {
-        println!(rt; "the list is not whole")
+    match replay(&mut list) {
+        Some(tallies) => tallies.report(&rt),
+        None => println!(rt; "the list is not whole"),
     }
 }

@@ -1,53 +1,29 @@
 // The requests of channels of the rival's blocks.
-ghost use Rattle.std.specs.Prelude.{◌≡◌, length};
-
-use crate::compare::{capped, meets_block, places, word};
-use crate::kinds::RIVAL;
+use crate::asked::MOST;
 use crate::list;
+use crate::list::Request;
+use crate::records::places;
 
-// Whether each word from the third on is a byte.
-fn are_bytes(words: &[u64]) -> bool {
-    let mut i: usize = 2;
-    while i < words.len() {
-        if words[i] > 255 {
-            return false;
-        }
-        i += 1;
+// The words as bytes. None where one is no byte.
+fn bytes<'a>(words: &[u64], places: &'a mut [u8; list::MOST]) -> Option<&'a [u8]> {
+    let bytes = places.get_mut(..words.len())?;
+    for (byte, word) in bytes.iter_mut().zip(words) {
+        *byte = u8::try_from(*word).ok()?;
     }
-    true
+    Some(bytes)
 }
 
-// The words as bytes, from the third on.
-fn bytes(words: &[u64]) -> [u8; list::MOST]
-    ensures { 512 ≡ length result }
-{
-    let mut block = [0u8; list::MOST];
-    let mut i: usize = 0;
-    while i < list::MOST {
-        block[i] = (word(words, i + 2) % 256) as u8;
-        i += 1;
-    }
-    block
-}
-
-// Whether the channel of the block in these bytes is answered as stored.
-fn channel(asked: &[u64], stored: &[u64], block: &[u8]) -> bool {
-    let long = capped(word(asked, 1) as usize);
+// A channel, how many places the output has, and the block's bytes. What is no such request does not agree.
+pub(crate) fn channel(request: Request) -> bool {
+    let [channel, long, words @ ..] = request.asked.0 else {
+        return false;
+    };
+    let mut block = [0; list::MOST];
+    let Some(block) = bytes(words, &mut block) else {
+        return false;
+    };
+    let long = (*long as usize).min(MOST);
     let mut output = places();
-    let r = recordings::read_channel(block, word(asked, 0) as usize, &mut output[0..long]);
-    meets_block(stored, r.refusal, r.count, &output, long)
-}
-
-// A channel, how many places the output has, and the block's bytes; nothing at another kind. What is no such request does not
-// agree.
-pub(crate) fn request(kind: usize, asked: &[u64], stored: &[u64], agreed: &mut bool) {
-    if kind != RIVAL || asked.len() < 2 {
-        return;
-    }
-    let n = asked.len() - 2;
-    if n > list::MOST || !are_bytes(asked) {
-        return;
-    }
-    let block = bytes(asked);
-    *agreed = channel(asked, stored, &block[0..n]);
+    let outcome = recordings::read_channel(block, *channel as usize, &mut output[..long]);
+    request.stored.agrees_with_output(outcome, &output[..long])
 }

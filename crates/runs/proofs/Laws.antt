@@ -105,9 +105,6 @@ pub record Stepping (F : Filter) (s₀ : F.State) (input output₀ : List Float)
   pub places : take i output ++ written (answers F s (drop i input)) (drop i output) ≡ written (answers F s₀ input) output₀
 
 module _ (F : Filter) (s₀ : F.State) (input output₀ : List Float) where
-  pub steps-start : Stepping F s₀ input output₀ s₀ output₀ 0
-  steps-start = record { same = refl; places = refl }
-
   pub steps-turn : {s s' : F.State} {output : List Float} {i : ℕ} {a : Answer} {y : Float} → i < length input → i < length output
       → record { answer = a; state = s' } ≡ step F s (get_or input i nan) → y ≡ placed a (get_or output i nan) → Stepping F s₀ input output₀ s output i
       → Stepping F s₀ input output₀ s' (set output i y) (i + 1)
@@ -312,24 +309,6 @@ module _ (F : Filter) (keeps : (s : F.State) (x : Float) → F.check s ≡ true 
       let places : written (answers F s input) output₀ ≡ output₂ = ap (λ (l : List Answer). written l output₀) whole ∙ more (answers F s₁ ys)
       ∙ rw (eo, own, take_at front back k lf, drop_at front back k lf) in
       rw (good, le-ltb (length output₀) (length input) room, count, last, places)
-
-  -- the counts of both parts are no more than the samples
-  pub parts-few : {s₁ : F.State} {output₁ : List Float} {c₁ c₂ : ℕ} → record { refusal = 0; clouded = c₁; state = s₁; output = output₁ }
-      ≡ block F s (take k input) output₀
-      → c₂ ≡ clouded_in (answers F s₁ (drop k input)) → c₁ + c₂ ≤ length input
-  parts-few {s₁} {output₁} {c₁} {c₂} e ec =
-      let a : c₁ ≡ clouded_in (answers F s (take k input)) = ap (λ (b : Block F.State). b.clouded) (e ∙ front-is) in
-      omega (
-        arith,
-        a,
-        ec,
-        few-clouded (answers F s (take k input)),
-        few-clouded (answers F s₁ (drop k input)),
-        answers-length F keeps s (take k input),
-        answers-length F keeps s₁ (drop k input),
-        length-take k input,
-        length-drop k input,
-      )
 
 -- ---- a block whose samples are taken some at a time
 

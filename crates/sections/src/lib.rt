@@ -2,9 +2,11 @@
 #![tactic(auto)]
 
 mod first_order;
+mod part;
 mod parts;
 mod section;
 
-pub use first_order::{FirstOrder, FirstOrderResult};
-pub use parts::{PassResult, enter, pass_sections, reset_sections, sections_are_finite};
-pub use section::{ProcessResult, Section, process};
+pub use first_order::FirstOrder;
+pub use part::{Part, ProcessResult, process_if};
+pub use parts::{pass_sections, reset_sections, sections_are_finite};
+pub use section::{Section, process};

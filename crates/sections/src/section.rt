@@ -1,12 +1,13 @@
 // A second-order section in transposed direct form II: 000's ButterworthBiquad and 001's ChebBiquad, which are the same.
 ghost use Rattle.std.specs.Prelude.{◌≡◌};
 ghost use Rattle.std.specs.Float.{binary64};
-ghost use Rattle.cascade_theory.specs.Section.{new_section, identity_section, blank_section, cleared_section, section_out, section_next};
+ghost use Rattle.cascade_theory.specs.Section.{SectionRecord, new_section, identity_section, blank_section, cleared_section, section_out, section_next};
 ghost use Rattle.cascade_theory.specs.Coefficients.{coefficients_of_section};
 ghost use Rattle.runs.specs.Runs.{all_finite};
 ghost use Rattle.sections.specs.View.{section_view};
 
-use scalar::is_finite;
+use super::part::{Part, ProcessResult};
+use runs::Coefficients;
 
 // Coefficients and two carried values.
 #[derive(Clone, Copy)]
@@ -18,13 +19,6 @@ pub struct Section {
     pub a2: f64,
     pub w1: f64,
     pub w2: f64,
-}
-
-// What a section answers to a sample, and the section after it.
-#[derive(Clone, Copy)]
-pub struct ProcessResult {
-    pub out: f64,
-    pub section: Section,
 }
 
 impl Section {
@@ -56,36 +50,40 @@ impl Section {
     {
         Section::new(0.0, 0.0, 0.0, 0.0, 0.0)
     }
+}
+
+impl Coefficients for Section {
+    ghost finite = { λ s. all_finite (coefficients_of_section (section_view s)) };
+
+    fn coefficients_are_finite(self) -> bool {
+        !runs::not_all_finite(&[self.b0, self.b1, self.b2, self.a1, self.a2])
+    }
+}
+
+impl Part for Section {
+    ghost Record = { SectionRecord };
+
+    ghost view = { section_view };
+
+    ghost out = { section_out binary64 };
+
+    ghost next = { section_next binary64 };
+
+    ghost cleared = { cleared_section };
 
     // y = b0·x + w1; w1 becomes (b1·x − a1·y) + w2; w2 becomes b2·x − a2·y.
-    pub fn process(self, x: f64) -> ProcessResult
-        ensures { (result.out ≡ section_out binary64 (section_view self) x) × (section_view result.section ≡ section_next binary64 (section_view self) x) }
-    {
+    fn process(self, x: f64) -> ProcessResult<Self> {
         let y = self.b0 * x + self.w1;
         let w1 = (self.b1 * x - self.a1 * y) + self.w2;
         let w2 = self.b2 * x - self.a2 * y;
-        let mut section = self;
-        section.w1 = w1;
-        section.w2 = w2;
-        ProcessResult { out: y, section }
+        ProcessResult {
+            out: y,
+            next: Section { w1, w2, ..self },
+        }
     }
 
-    // 02's Q-3: whether its coefficients are all finite.
-    pub fn coefficients_are_finite(self) -> bool
-        ensures { result ≡ all_finite (coefficients_of_section (section_view self)) }
-    {
-        let forward = is_finite(self.b0) & is_finite(self.b1) & is_finite(self.b2);
-        forward & is_finite(self.a1) & is_finite(self.a2)
-    }
-
-    // Sets the carried values to +0.
-    pub fn reset(self) -> Self
-        ensures { section_view result ≡ cleared_section (section_view self) }
-    {
-        let mut section = self;
-        section.w1 = 0.0;
-        section.w2 = 0.0;
-        section
+    fn reset(self) -> Self {
+        Section::new(self.b0, self.b1, self.b2, self.a1, self.a2)
     }
 }
 
@@ -94,8 +92,7 @@ pub fn process(section: &mut Section, x: f64) -> f64
     ensures { (result ≡ section_out binary64 (section_view section.old) x)
         × (section_view section.new ≡ section_next binary64 (section_view section.old) x) }
 {
-    let s = *section;
-    let p = s.process(x);
-    *section = p.section;
+    let p = section.process(x);
+    *section = p.next;
     p.out
 }

@@ -22,6 +22,11 @@ unfoldable pub horner : Float → Float → List Float → Float
 horner s c [] = c
 horner s c (d ∷ ds) = c ⊕ s ⊗ horner s d ds
 
+-- c j + s * (c (j + 1) + .. + s * c (j + n)): in what the code's `horner` ensures, and no part of what the series promise
+unfoldable pub horner_from : (ℕ → Float) → Float → ℕ → ℕ → Float
+horner_from c s zero j = c j
+horner_from c s (suc n) j = c j ⊕ s ⊗ horner_from c s n (suc j)
+
 -- -1/k!, +1/(k + 2)!, alternating to +1/(k + 14)!
 unfoldable pub alternating_of : ℕ → Float → Float
 alternating_of k s =

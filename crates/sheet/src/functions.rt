@@ -1,46 +1,31 @@
 // The square root and the elementary functions.
 use super::fault::Fault;
-use super::parameters::only_float;
-use super::put::put_fault;
-use text_answers::put_float;
+use super::parameters::Parameters;
+use exports::Function;
+use text_answers::Output;
 
-#[derive(Clone, Copy)]
-pub(crate) enum Function {
-    Sqrt,
-    Sin,
-    Cos,
-    Tan,
-    Exp,
-    Ln,
-    Sinh,
-    Cosh,
-    Pow10,
-}
-
-fn value(function: Function, x: f64) -> f64 {
-    match function {
-        Function::Sqrt => ieee::sqrt(x),
-        Function::Sin => elementary::sin(x),
-        Function::Cos => elementary::cos(x),
-        Function::Tan => elementary::tan(x),
-        Function::Exp => elementary::exp(x),
-        Function::Ln => logarithm::ln(x),
-        Function::Sinh => hyperbolic::sinh(x),
-        Function::Cosh => hyperbolic::cosh(x),
-        Function::Pow10 => elementary::pow10(x),
+// The function that a word names.
+pub(crate) fn function_of(word: &[u8]) -> Option<Function> {
+    match word {
+        b"sqrt" => Some(Function::Sqrt),
+        b"sin" => Some(Function::Sin),
+        b"cos" => Some(Function::Cos),
+        b"tan" => Some(Function::Tan),
+        b"exp" => Some(Function::Exp),
+        b"ln" => Some(Function::Ln),
+        b"sinh" => Some(Function::Sinh),
+        b"cosh" => Some(Function::Cosh),
+        b"pow10" => Some(Function::Pow10),
+        _ => None,
     }
 }
 
 pub(crate) fn answer_function(
     function: Function,
-    rest: &[u8],
-    output: &mut [u8],
-    at: usize,
-) -> usize {
-    let p = only_float(rest);
-    let fault = p.fault;
-    let Fault::None = fault else {
-        return put_fault(output, at, fault);
-    };
-    put_float(output, at, value(function, p.x))
+    parameters: Parameters,
+    output: &mut Output,
+) -> Result<(), Fault> {
+    let x = parameters.only_float()?;
+    output.put_float(exports::value(function, x));
+    Ok(())
 }

@@ -1,44 +1,49 @@
-// The tokens of a line.
-use text_answers::{Span, next_token};
+// The line that is being read.
+ghost use Rattle.std.specs.Prelude.{◌≤◌};
+ghost use Rattle.sheet.specs.declared.line.TheConstants.{ROOM};
 
-// The bytes of a token; none where it does not lie in the line.
-pub(crate) fn bytes_of(line: &[u8], token: Span) -> &[u8] {
-    let start = token.start;
-    let end = token.end;
-    if start <= end {
-        if end <= line.len() {
-            return &line[start..end];
-        }
-    }
-    let none: usize = 0;
-    &line[..none]
+// The longest line that is answered, without its end.
+pub(crate) const LONGEST: usize = 8192;
+
+// That, a CR, and a byte that a longer line fills.
+pub(crate) const ROOM: usize = 8194;
+
+// Its first bytes, as far as there is room for them: an array and how many it holds, since a Vec may find no memory.
+#[derive(Drop)]
+pub(crate) struct Line {
+    bytes: [u8; ROOM],
+    held: usize,
+    ghost fits: { held ≤ ROOM },
 }
 
-// What follows a token.
-pub(crate) fn rest_of(line: &[u8], token: Span) -> &[u8] {
-    let end = token.end;
-    if end <= line.len() {
-        return &line[end..];
+impl Line {
+    pub(crate) fn empty() -> Self {
+        Line {
+            bytes: [0; ROOM],
+            held: 0,
+        }
     }
-    let none: usize = 0;
-    &line[..none]
-}
 
-// How many tokens there are.
-pub(crate) fn token_count(line: &[u8]) -> usize {
-    let mut n: usize = 0;
-    let mut at: usize = 0;
-    while at < line.len() {
-        let t = next_token(line, at);
-        let end = t.end;
-        if end <= t.start {
-            return n;
-        }
-        if end <= at {
-            return n;
-        }
-        n += 1;
-        at = end;
+    pub(crate) fn clear(&mut self) {
+        self.held = 0;
     }
-    n
+
+    pub(crate) fn text(&self) -> &[u8] {
+        &self.bytes[..self.held]
+    }
+
+    // Puts bytes behind the ones that are held.
+    pub(crate) fn hold(&mut self, bytes: &[u8]) {
+        let room = &mut self.bytes[self.held..];
+        let n = bytes.len().min(room.len());
+        room[..n].copy_from_slice(&bytes[..n]);
+        self.held += n;
+    }
+
+    // Drops a CR at the end.
+    pub(crate) fn drop_cr(&mut self) {
+        if self.held > 0 && self.bytes[self.held - 1] == b'\r' {
+            self.held -= 1;
+        }
+    }
 }

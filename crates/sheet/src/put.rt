@@ -1,83 +1,52 @@
-// The pieces of an answer line, put into the output from a place on; each function returns the place after its piece.
-use super::fault::Fault;
-use runs::Answer;
-use text_answers::{put_bytes, put_count, put_float};
+// The pieces of an answer line.
+use runs::{Answer, Refusal};
+use text_answers::Output;
 
-pub(crate) fn end_line(output: &mut [u8], at: usize) -> usize {
-    put_bytes(output, at, b"\n")
+pub(crate) fn put_refused(output: &mut Output, refusal: Refusal) {
+    output.put_bytes(b"refused ");
+    output.put_count(u64::from(u8::from(refusal)));
 }
 
-pub(crate) fn put_fault(output: &mut [u8], at: usize, fault: Fault) -> usize {
-    let at = put_bytes(output, at, b"error ");
-    match fault {
-        Fault::None => at,
-        Fault::LineTooLong => put_bytes(output, at, b"line too long"),
-        Fault::UnknownRequest => put_bytes(output, at, b"unknown request"),
-        Fault::TokenCount => put_bytes(output, at, b"wrong number of tokens"),
-        Fault::BadNumber => put_bytes(output, at, b"bad number"),
-        Fault::TooManySamples => put_bytes(output, at, b"too many samples"),
-        Fault::UnknownWindow => put_bytes(output, at, b"unknown window"),
+// A space and a float, for each.
+pub(crate) fn put_floats(output: &mut Output, xs: &[f64]) {
+    for x in xs {
+        output.put_bytes(b" ");
+        output.put_float(*x);
     }
-}
-
-pub(crate) fn put_refused(output: &mut [u8], at: usize, refusal: u8) -> usize {
-    let at = put_bytes(output, at, b"refused ");
-    put_count(output, at, refusal as u64)
-}
-
-// A space and a float.
-pub(crate) fn put_next(output: &mut [u8], at: usize, x: f64) -> usize {
-    let at = put_bytes(output, at, b" ");
-    put_float(output, at, x)
-}
-
-pub(crate) fn put_floats(output: &mut [u8], at: usize, xs: &[f64]) -> usize {
-    let mut at = at;
-    let mut i: usize = 0;
-    while i < xs.len() {
-        at = put_next(output, at, xs[i]);
-        i += 1;
-    }
-    at
 }
 
 // What a step answers.
-pub(crate) fn put_answer(output: &mut [u8], at: usize, answer: Answer) -> usize {
+pub(crate) fn put_answer(output: &mut Output, answer: Answer) {
     match answer {
         Answer::Clear(y) => {
-            let at = put_bytes(output, at, b"clear");
-            put_next(output, at, y)
+            output.put_bytes(b"clear");
+            put_floats(output, &[y]);
         }
         Answer::Clouded(y) => {
-            let at = put_bytes(output, at, b"clouded");
-            put_next(output, at, y)
+            output.put_bytes(b"clouded");
+            put_floats(output, &[y]);
         }
-        Answer::Refused(n) => put_refused(output, at, n),
+        Answer::Refused(refusal) => put_refused(output, refusal),
+    }
+}
+
+// `refused K` or `done`: what a reset answers, and how a pulse's answer begins.
+pub(crate) fn put_done(output: &mut Output, outcome: Result<(), Refusal>) {
+    match outcome {
+        Ok(()) => output.put_bytes(b"done"),
+        Err(refusal) => put_refused(output, refusal),
     }
 }
 
 // What a block answers: its refusal or its number of clouded answers, and the output's places after the call. Reading a channel
 // answers alike, by its number of samples.
-pub(crate) fn put_block(
-    output: &mut [u8],
-    at: usize,
-    refusal: u8,
-    count: usize,
-    places: &[f64],
-) -> usize {
-    if refusal != 0 {
-        let at = put_refused(output, at, refusal);
-        return put_floats(output, at, places);
+pub(crate) fn put_block(output: &mut Output, outcome: Result<usize, Refusal>, places: &[f64]) {
+    match outcome {
+        Ok(count) => {
+            output.put_bytes(b"done ");
+            output.put_count(count as u64);
+        }
+        Err(refusal) => put_refused(output, refusal),
     }
-    let at = put_bytes(output, at, b"done ");
-    let at = put_count(output, at, count as u64);
-    put_floats(output, at, places)
-}
-
-// `refused K` or `done`: what a reset answers, and how a pulse's answer begins.
-pub(crate) fn put_done(output: &mut [u8], at: usize, refusal: u8) -> usize {
-    if refusal != 0 {
-        return put_refused(output, at, refusal);
-    }
-    put_bytes(output, at, b"done")
+    put_floats(output, places);
 }

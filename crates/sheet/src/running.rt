@@ -1,127 +1,60 @@
-// Steps, blocks and resets of the current records. A request is read and tested alike for both kinds of record. Then each
-// kind ends its answer itself: to hand both records on to one end would copy them, a fifth of the time of an `fstep`.
-use super::answered::{Answered, answer_fault, end_answer};
+// Steps, blocks and resets of a current record. It is lent beside the output: to hand both records on would copy them, a fifth
+// of the time of an `fstep`.
 use super::fault::Fault;
-use super::parameters::{MOST, block_lengths, only_float, rest_fault};
+use super::parameters::{MOST, Parameters};
 use super::put::{put_answer, put_block, put_done};
-use super::records::{RecordKind, Records};
+use runs::FilterRecord;
+use text_answers::Output;
 
-pub(crate) fn answer_step(
-    kind: RecordKind,
-    rest: &[u8],
-    output: &mut [u8],
-    at: usize,
-    records: Records,
-) -> Answered {
-    let p = only_float(rest);
-    let fault = p.fault;
-    let Fault::None = fault else {
-        return answer_fault(fault, output, at, records);
-    };
-    match kind {
-        RecordKind::Cascade => {
-            let cascade = records.cascade;
-            let u = cascade.update(p.x);
-            let answer = u.answer;
-            let after = u.cascade;
-            let at = put_answer(output, at, answer);
-            end_answer(output, at, records.with_cascade(after))
-        }
-        RecordKind::Filter => {
-            let filter = records.filter;
-            let u = filter.update(p.x);
-            let answer = u.answer;
-            let after = u.filter;
-            let at = put_answer(output, at, answer);
-            end_answer(output, at, records.with_filter(after))
-        }
-    }
+pub(crate) fn answer_step<R: FilterRecord>(
+    record: &mut R,
+    parameters: Parameters,
+    output: &mut Output,
+) -> Result<(), Fault> {
+    let x = parameters.only_float()?;
+    let step = record.update(x);
+    *record = step.record;
+    put_answer(output, step.answer);
+    Ok(())
 }
 
-// An output's places before a call: 1000, 1001 and so on.
+// An output's places before a call: 1000, 1001 and so on. `replay` has the same: a crate for a few lines would be no plainer.
 pub(crate) fn places_before() -> [f64; MOST] {
     let mut places = [0.0; MOST];
-    let mut x = 1000.0;
-    let mut i: usize = 0;
-    while i < MOST {
-        places[i] = x;
-        x = x + 1.0;
-        i += 1;
+    for (place, number) in places.iter_mut().zip(1000u16..) {
+        *place = f64::from(number);
     }
     places
 }
 
-// The block of these samples, into these places.
-fn answer_samples(
-    kind: RecordKind,
-    samples: &[f64],
-    places: &mut [f64],
-    output: &mut [u8],
-    at: usize,
-    records: Records,
-) -> Answered {
-    match kind {
-        RecordKind::Cascade => {
-            let cascade = records.cascade;
-            let b = cascade.block(samples, places);
-            let after = b.cascade;
-            let at = put_block(output, at, b.refusal, b.clouded, places);
-            end_answer(output, at, records.with_cascade(after))
-        }
-        RecordKind::Filter => {
-            let filter = records.filter;
-            let b = filter.block(samples, places);
-            let after = b.filter;
-            let at = put_block(output, at, b.refusal, b.clouded, places);
-            end_answer(output, at, records.with_filter(after))
-        }
-    }
+// The number of samples, the samples, and the length of the output.
+pub(crate) fn answer_block<R: FilterRecord>(
+    record: &mut R,
+    mut parameters: Parameters,
+    output: &mut Output,
+) -> Result<(), Fault> {
+    let m = parameters.length()?;
+    parameters.exactly(m + 1)?;
+    let mut samples = [0.0; MOST];
+    let input = &mut samples[..m];
+    parameters.floats(input)?;
+    let l = parameters.length()?;
+    let mut all = places_before();
+    let places = &mut all[..l];
+    let block = record.block(input, places);
+    *record = block.record;
+    put_block(output, block.outcome, places);
+    Ok(())
 }
 
-pub(crate) fn answer_block(
-    kind: RecordKind,
-    rest: &[u8],
-    output: &mut [u8],
-    at: usize,
-    records: Records,
-) -> Answered {
-    let mut input = [0.0; MOST];
-    let b = block_lengths(rest, &mut input);
-    let fault = b.fault;
-    let Fault::None = fault else {
-        return answer_fault(fault, output, at, records);
-    };
-    let m = b.samples;
-    let l = b.places;
-    let mut places = places_before();
-    answer_samples(kind, &input[..m], &mut places[..l], output, at, records)
-}
-
-pub(crate) fn answer_reset(
-    kind: RecordKind,
-    rest: &[u8],
-    output: &mut [u8],
-    at: usize,
-    records: Records,
-) -> Answered {
-    let fault = rest_fault(rest);
-    let Fault::None = fault else {
-        return answer_fault(fault, output, at, records);
-    };
-    match kind {
-        RecordKind::Cascade => {
-            let cascade = records.cascade;
-            let r = cascade.reset();
-            let after = r.cascade;
-            let at = put_done(output, at, r.refusal);
-            end_answer(output, at, records.with_cascade(after))
-        }
-        RecordKind::Filter => {
-            let filter = records.filter;
-            let r = filter.reset();
-            let after = r.filter;
-            let at = put_done(output, at, r.refusal);
-            end_answer(output, at, records.with_filter(after))
-        }
-    }
+pub(crate) fn answer_reset<R: FilterRecord>(
+    record: &mut R,
+    parameters: Parameters,
+    output: &mut Output,
+) -> Result<(), Fault> {
+    parameters.exactly(0)?;
+    let reset = record.reset();
+    *record = reset.record;
+    put_done(output, reset.outcome);
+    Ok(())
 }

@@ -1,2 +1,2 @@
--- The proofs that belong to no one function. Texts: what is put into an output.
+-- The proofs that belong to no one function. Texts: digits, and the zeros in front of a count.
 pub mod Texts

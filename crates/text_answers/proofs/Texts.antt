@@ -1,102 +1,115 @@
--- Loops that put bytes and digits into an output, the fewest digits of a number, and the text of a float.
-use mathlib.Core.Path.{◌≡◌, refl, sym, ap₂, ◌∙◌}
-use mathlib.Core.Bool.{true, false}
-use mathlib.Core.List.{List, [], ◌∷◌, ◌++◌, append_assoc}
-use Prim.Native.Nat.{ℕ, zero, suc, ◌+◌, ◌-◌, ◌*◌, ◌/◌, ◌%◌, ◌^◌, ◌<◌, ◌≤◌}
-use native.Mathlib.Numerals.{add-one}
-use native.Mathlib.Nat.{add-zero, add-suc, not-suc-le-zero, one-mul, pow-suc, div-div-eq-div-mul, le-div_iff_mul-le, div-lt_iff_lt-mul}
-use native.Mathlib.Omega.{arith}
-use lib.Dec.{leb}
-use lib.ListN.{length, take, drop, set, length-set, length-append, take-append-drop}
-use lib.Seq.{drop-cons, lt-length-set, take-set-le, drop-set-lt, get_or-set_same}
-use lib.Ieee.{Float, ne, is_nan, to_bits, binary64}
-use lib.Ieee.Bits.{is_false}
-use borrow.Author.Tests.{le-leb}
-use Rattle.lists.proofs.Overwriting.{Overwriting, overwrite-done}
-use Rattle.text_answers.specs.Texts.{put, place_after, glyph, digits_of, float_text, Fewest}
-use Rattle.ieee.proofs.Patterns.{differs-nan, same_number}
+-- The loop that writes digits, and the zeros in front of a count.
+use Rattle.std.proofs.Common.{ℕ, zero, suc, ◌+◌, ◌-◌, ◌/◌, ◌%◌, ◌^◌, ◌<◌, ◌≤◌, ◌≡◌, ◌∙◌, ◌⊎◌, refl, sym, ap, inl, inr, cond, not, List, [], ◌∷◌, ◌++◌, Bool}
+use Rattle.std.proofs.Common.{arith, add-one, append_assoc, length, take, drop, reverse, take_all, append-nil, slice_set, length-append, length-set}
+use Rattle.std.proofs.lemmas.Bool.Decides.{nat_tests}
+use Rattle.std.proofs.lemmas.List.{take_rest}
+use Rattle.std.proofs.Math.Seq.{take-suc-set}
+use Rattle.std.proofs.lemmas.Grind.{reverse_onto}
+use Rattle.std.proofs.str.Laws.{order}
+use Rattle.std.specs.List.{position}
+use Rattle.std.specs.Option.{unwrap_or}
+use borrow.Author.Tests.{ne_eqb}
+use lib.Dec.{eqb}
+use native.Mathlib.Nat.{mod-eq_of_lt, div-eq_of_lt, one-le-pow, div-one, pow-zero, pow-succ', one-mul, div-div-eq-div-mul, le-div_iff_mul-le, div-lt_iff_lt-mul}
+use Rattle.text_answers.specs.Texts.{put, place_after, glyph, digits_of, Fewest, CountPut}
 
--- ---- what a function that puts a text returns, and its output: where the text does not fit, and where it does
-pub left_out : (output : List ℕ) (at : ℕ) (text : List ℕ) (n : ℕ) → length text ≡ n → leb (at + n) (length output) ≡ false
-    → (output ≡ put output at text) × (length output + 1 ≡ place_after output at n)
-unfolding put place_after
-left_out output at text n e h = (rw (e, h), rw (h, add-one))
-
-pub put_whole : (output₀ : List ℕ) (at : ℕ) (text : List ℕ) (n : ℕ) {output : List ℕ} → length text ≡ n → at + n ≤ length output₀
-    → output ≡ take at output₀ ++ (text ++ drop (at + n) output₀) → (output ≡ put output₀ at text) × (at + n ≡ place_after output₀ at n)
-unfolding put place_after
-put_whole output₀ at text n e h p = (rw (e, le-leb (at + n) (length output₀) h) p, rw (le-leb (at + n) (length output₀) h))
-
--- ---- the loop that puts bytes
-pub put-done : {output₀ : List ℕ} {at : ℕ} {text output : List ℕ} (i : ℕ) → length text ≤ i → Overwriting output₀ at text (length text) output i
-    → (output ≡ put output₀ at text) × (at + i ≡ place_after output₀ at (length text))
-put-done {output₀} {at} {text} i h p = let e : i ≡ length text = omega (arith, p.within) in
-    rw e (put_whole output₀ at text (length text) refl p.room (overwrite-done i h p))
-
--- ---- the loop that puts digits, the last one first: the i digits of what is left are still to come
+-- ---- the loop that writes digits, the last one first
 pub length_digits : (base k n : ℕ) → length (digits_of base k n) ≡ k
 unfolding digits_of
 length_digits base zero n = refl
 length_digits base (suc k) n = rw (length-append, length_digits base k (n / base)) (add-one k)
 
-abbrev pub Printing : List ℕ → ℕ → ℕ → ℕ → ℕ → List ℕ → ℕ → ℕ → Type 0
-Printing output₀ at base k n output i rest =
-    (length output ≡ length output₀) × (take at output ++ (digits_of base i rest ++ drop (at + i) output)
-    ≡ take at output₀ ++ (digits_of base k n ++ drop (at + k) output₀))
+-- the digits in the order of the loop
+pub from_last : ℕ → ℕ → ℕ → List ℕ
+from_last base zero n = []
+from_last base (suc k) n = glyph (n % base) ∷ from_last base k (n / base)
 
--- what stands from the place of a store on
-drop-set-same : (l : List ℕ) (i a : ℕ) → i < length l → drop i (set l i a) ≡ a ∷ drop (suc i) l
-drop-set-same l i a h =
-    drop-cons (set l i a) i 0 (lt-length-set l i a h) ∙ ap₂ ◌∷◌ (get_or-set_same l i a 0 h) (drop-set-lt (suc i) l i a (omega arith))
+turned : (base k n : ℕ) → reverse (from_last base k n) ≡ digits_of base k n
+unfolding from_last digits_of
+turned base zero n = refl
+turned base (suc k) n =
+    reverse_onto (from_last base k (n / base)) (glyph (n % base)) [] ∙ ap (λ (l : List ℕ). l ++ glyph (n % base) ∷ []) (turned base k (n / base))
 
-pub print-turn : (output₀ : List ℕ) (at base k n : ℕ) (output : List ℕ) (i rest : ℕ) {digit : ℕ} → 0 < i → i ≤ k → at + k ≤ length output₀
-    → digit ≡ glyph (rest % base) → Printing output₀ at base k n output i rest
-    → Printing output₀ at base k n (set output (at + (i - 1)) digit) (i - 1) (rest / base)
+-- those of rest are still to come
+pub record Writing (base n k : ℕ) (text : List ℕ) (i rest : ℕ) : Type 0 where
+  pub room : length text ≡ k
+  pub split : take i text ++ from_last base (k - i) rest ≡ from_last base k n
+
+pub write-turn : (base n k : ℕ) (text : List ℕ) (i rest digit : ℕ) → i < k → digit ≡ glyph (rest % base) → Writing base n k text i rest
+    → Writing base n k (slice_set text i digit) (i + 1) (rest / base)
+unfolding from_last
+write-turn base n k text i rest digit h e p =
+    let left : k - i ≡ suc (k - suc i) = omega arith in
+    record {
+      room = length-set text i digit ∙ p.room;
+      split = rw (add-one, take-suc-set text i digit (omega (arith, p.room)), append_assoc, e) (rw left at p.split);
+    }
+
+pub write-done : (base n k : ℕ) (text : List ℕ) (i rest : ℕ) → k ≤ i → Writing base n k text i rest → reverse text ≡ digits_of base k n
+unfolding from_last
+write-done base n k text i rest h p =
+    let none : k - i ≡ 0 = omega arith in
+    let whole = rw (none, take_all i text (omega (arith, p.room)), append-nil) at p.split in
+    ap reverse whole ∙ turned base k n
+
+-- ---- the zeros in front of a count
+first_digit : (base k n : ℕ) → digits_of base (suc k) n ≡ glyph (n / base ^ k % base) ∷ digits_of base k n
 unfolding digits_of
-print-turn output₀ at base k n output zero rest h l m e p = absurd (not-suc-le-zero h)
-print-turn output₀ at base k n output (suc i) rest h l m e p =
-    let b : at + i < length output = omega arith in
-    let a : at ≤ at + i = omega arith in
-    let j : suc i - 1 ≡ i = omega arith in
-    (length-set output (at + (suc i - 1)) _ ∙ p.0, rw (j, e, take-set-le, drop-set-same) (rw (add-suc, append_assoc) at p.1))
+first_digit base zero n = rw (pow-zero, div-one)
+first_digit base (suc k) n =
+    rw (pow-succ', ← div-div-eq-div-mul n base (base ^ k)) (ap (λ (l : List ℕ). l ++ glyph (n % base) ∷ []) (first_digit base k (n / base)))
 
-pub print-done : (output₀ : List ℕ) (at base k n : ℕ) (output : List ℕ) (i rest : ℕ) → i ≡ 0 → at + k ≤ length output₀
-    → Printing output₀ at base k n output i rest → (output ≡ put output₀ at (digits_of base k n)) × (at + k ≡ place_after output₀ at k)
+abbrev pub is_other : ℕ → Bool
+is_other d = not (eqb d 48)
+
+-- how many zeros stand in front, but for the last digit
+unfoldable pub zeros : ℕ → List ℕ → ℕ
+zeros k digits = unwrap_or (position is_other digits) k
+
+one_digit : (d : ℕ) → zeros 0 (d ∷ []) ≡ 0
+unfolding zeros
+one_digit d = grind (arith, nat_tests)
+
+one_more : (k d : ℕ) (digits : List ℕ) → zeros (suc k) (d ∷ digits) ≡ cond (is_other d) 0 (suc (zeros k digits))
+unfolding zeros
+one_more k d digits = grind (arith, nat_tests)
+
+other_or_not : (q : ℕ) → q < 10 → is_other (glyph (q % 10)) ≡ not (eqb q 0)
+unfolding glyph
+other_or_not q h = rw (mod-eq_of_lt h) (grind (arith, nat_tests))
+
+-- behind them stand the fewest digits that hold the number
+pub record Left (k n z : ℕ) : Type 0 where
+  pub count : ℕ
+  pub all : z + count ≡ suc k
+  pub fewest : Fewest n count
+  pub digits : drop z (digits_of 10 (suc k) n) ≡ digits_of 10 count n
+
+pub fewest_left : (k n : ℕ) → n < 10 ^ suc k → Left k n (zeros k (digits_of 10 (suc k) n))
 unfolding digits_of
-print-done output₀ at base k n output i rest e m p =
-    put_whole output₀ at (digits_of base k n) k (length_digits base k n) m (sym (take-append-drop at output) ∙ (rw (e, add-zero) at p.1))
+fewest_left zero n h =
+    rw (one_digit (glyph (n % 10)))
+    (record { count = 1; all = refl; fewest = record { some = omega arith; hold = h; needed = λ m. absurd (omega arith) }; digits = refl })
+fewest_left (suc k) n h = step (fewest_left k n) (order n (10 ^ suc k))
+  where
+    step : (n < 10 ^ suc k → Left k n (zeros k (digits_of 10 (suc k) n))) → (n < 10 ^ suc k) ⊎ (10 ^ suc k ≤ n)
+        → Left (suc k) n (zeros (suc k) (digits_of 10 (suc (suc k)) n))
+    step f (inl l) =
+        let r = f l in
+        let d = other_or_not (n / 10 ^ suc k) (rw (div-eq_of_lt l) (omega arith)) in
+        rw (first_digit 10 (suc k) n, one_more, d, div-eq_of_lt l)
+        (record { count = r.count; all = omega (arith, r.all); fewest = r.fewest; digits = rw (first_digit 10 (suc k) n) r.digits })
+    step f (inr l) =
+        let q : 0 < n / 10 ^ suc k = (le-div_iff_mul-le (one-le-pow (suc k) 10 (omega arith))).1 (rw one-mul l) in
+        let small : n / 10 ^ suc k < 10 = (div-lt_iff_lt-mul (one-le-pow (suc k) 10 (omega arith))).1 (rw pow-succ' at h) in
+        let i : suc (suc k) - 1 ≡ suc k = omega arith in
+        rw (first_digit 10 (suc k) n, one_more, other_or_not (n / 10 ^ suc k) small, ne_eqb (n / 10 ^ suc k) 0 (omega arith))
+        (record { count = suc (suc k); all = omega arith; fewest = record { some = omega arith; hold = h; needed = λ m. rw i l }; digits = refl })
 
--- ---- the loop that counts digits: k of them are passed, rest is what stands before them, and k stays below n
-abbrev pub Counting : ℕ → ℕ → ℕ → Type 0
-Counting n k rest = (1 ≤ k) × (k + 2 * rest ≤ n + 1) × (rest ≡ n / 10 ^ k) × (1 < k → 10 ^ (k - 1) ≤ n)
-
-power : (k : ℕ) → 0 < 10 ^ k
-power zero = omega arith
-power (suc k) = let h = power k in
-    rw pow-suc (omega arith)
-
-pub count-start : (n : ℕ) → Counting n 1 (n / 10)
-count-start n = (omega arith, omega arith, refl, λ h. omega arith)
-
-pub count_turn : (n k rest : ℕ) → 0 < rest → Counting n k rest → Counting n (k + 1) (rest / 10)
-count_turn n k rest h p =
-    let j : k + 1 - 1 ≡ k = omega arith in (
-      omega arith,
-      omega arith,
-      rw (p.2, add-one, pow-suc) (div-div-eq-div-mul n (10 ^ k) 10),
-      λ m. rw (j, ← one-mul (10 ^ k)) ((le-div_iff_mul-le (power k)).0 (rw p.2 at h)),
-    )
-
-pub count-done : (n k rest : ℕ) → rest ≡ 0 → Counting n k rest → Fewest n k
-count-done n k rest e p =
-    let q : n / 10 ^ k < 1 = omega arith in
-    record { some = p.0; hold = rw one-mul at ((div-lt_iff_lt-mul (power k)).0 q); needed = p.3 }
-
--- ---- the text of a float, by the test that tells NaN from the others
-pub nan-text : (x : Float) → ne x x ≡ true → float_text x ≡ 78 ∷ 97 ∷ 78 ∷ []
-unfolding float_text is_nan
-nan-text x h = rw (differs-nan x h)
-
-pub number-text : (x : Float) → ne x x ≡ false → float_text x ≡ digits_of 16 16 (to_bits binary64 x)
-unfolding float_text
-number-text x h = rw (is_false (is_nan x) (same_number x h))
+pub count_put : {bytes bytes' text : List ℕ} {at at' n z : ℕ} → n < 2 ^ 64 → text ≡ digits_of 10 20 n → z ≡ zeros 19 text
+    → bytes' ≡ put bytes at (take (20 - z) (drop z text)) → at' ≡ place_after bytes at (length (take (20 - z) (drop z text))) → CountPut bytes at n bytes' at'
+count_put {text = text} {n = n} {z = z} h t e f g =
+    let r = rw (← t, ← e) at (fewest_left 19 n (omega arith)) in
+    let l : 20 ≡ length text = rw t (sym (length_digits 10 20 n)) in
+    let d : take (20 - z) (drop z text) ≡ digits_of 10 r.count n = rw (l, take_rest, t) r.digits in
+    record { digits = r.count; fewest = r.fewest; place = g ∙ ap (place_after _ _) (ap length d ∙ length_digits 10 r.count n); text = f ∙ ap (put _ _) d }

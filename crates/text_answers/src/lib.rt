@@ -4,7 +4,7 @@
 
 mod print;
 
-pub use print::{put_bytes, put_count, put_float};
-pub use text_decimals::{CountToken, FloatToken, count_token};
+pub use print::Output;
+pub use text_decimals::count_token;
 pub use text_numbers::{float_token, is_pairs, put_pairs};
-pub use text_tokens::{Class, Span, next_token, run_of, same_bytes};
+pub use text_tokens::{Tokens, next_token};

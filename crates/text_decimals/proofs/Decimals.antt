@@ -1,12 +1,11 @@
 -- A decimal's digits over its power of ten, and the one division: the nearest double.
 use Prim.Native.Nat.{ℕ, zero, suc, ◌*◌, ◌^◌, ◌<◌, ◌≤◌}
 use mathlib.Core.Path.{◌≡◌, refl, sym, ap, ◌∙◌, subst}
-use mathlib.Core.Bool.{Bool, true, false, ◌&&◌, cond, false≢true}
+use mathlib.Core.Bool.{Bool, false}
 use mathlib.Core.List.{List, ◌++◌}
 use native.Mathlib.Nat.{le_trans, le_of_eq, mul_assoc, mul_comm, mul_right_comm, mul-mul-mul_comm, mul-le-mul_right, le_of_mul-le-mul_right, mul-pos}
 use native.Mathlib.Nat.{one-le-pow, pow-succ'}
 use native.Mathlib.Omega.{arith}
-use lib.Dec.{leb, ltb}
 use lib.IntN.{ℤ, pos}
 use lib.ListN.{length}
 use lib.Pow.{pow_pos}
@@ -14,14 +13,13 @@ use lib.Ieee.{Float, nan, inf, fin, Format, binary64, up, down, div, of_int}
 use lib.Ieee.Exact.{HasValue}
 use lib.Ieee.Fits.{down_pos}
 use lib.Ieee.Back.{round_whole}
-use borrow.Author.Tests.{leb-true, ltb-true}
+use Rattle.std.proofs.Common.{Some}
+use Rattle.std.proofs.lemmas.Bool.Decides.{nat_tests}
+use Rattle.std.proofs.lemmas.Option.{cond_some}
 use Rattle.ieee.specs.Nearest.{Nearest, fraction, mid_num, mid_den}
 use Rattle.ieee.specs.Arithmetic.{Quotient}
 use Rattle.ieee.proofs.Arithmetic.{div-correct}
-use Rattle.lists.proofs.Tests.{both}
 use Rattle.text_decimals.specs.Decimals.{value_after, decimal}
-use Rattle.text_decimals.specs.declared.FloatToken.{FloatToken}
-use Rattle.text_decimals.specs.declared.FloatToken.TheVariants.{Number, NotANumber}
 use Rattle.text_decimals.proofs.Powers.{power-is}
 
 -- ---- two fractions that are equal compare alike with every other
@@ -77,35 +75,14 @@ over-power (fin s m e) v k h l =
     (div-correct binary64 (fin false m e) (fin false P (pos k))))))
 
 -- ---- a decimal that is accepted
-number_or : Float → FloatToken → Float
-number_or d (Number x) = x
-number_or d NotANumber = d
-
-is_number : FloatToken → Bool
-is_number (Number x) = true
-is_number NotANumber = false
-
 -- the value that the definition gives is the double nearest to its digits over the power of ten
-pub decimal-nearest : (whole places : List ℕ) (x : Float) → decimal whole places ≡ Number x
+pub decimal-nearest : (whole places : List ℕ) (x : Float) → decimal whole places ≡ Some x
     → Nearest binary64 (fraction (value_after 10 0 (whole ++ places)) (10 ^ length places)) false x
-unfolding decimal number_or is_number of_int
-decimal-nearest whole places x = go (leb 1 (length whole) && (ltb digits (10 ^ 15) && leb k 22)) refl
-  where
-    digits : ℕ
-    digits = value_after 10 0 (whole ++ places)
-
-    k : ℕ
-    k = length places
-
-    y : Float
-    y = div binary64 (of_int binary64 (pos digits)) (of_int binary64 (pos (10 ^ k)))
-
-    go : (b : Bool) → (leb 1 (length whole) && (ltb digits (10 ^ 15) && leb k 22)) ≡ b → cond b (Number y) NotANumber ≡ Number x
-        → Nearest binary64 (fraction digits (10 ^ k)) false x
-    go true e h =
-        let c = both (ltb digits (10 ^ 15)) (leb k 22) (both (leb 1 (length whole)) (ltb digits (10 ^ 15) && leb k 22) e).1 in
-        let small : digits < 10 ^ 15 = ltb-true digits (10 ^ 15) c.0 in
-        let few : k ≤ 22 = leb-true k 22 c.1 in
-        subst (λ (z : Float). Nearest binary64 (fraction digits (10 ^ k)) false z) (ap (number_or nan) h)
-        (over-power (of_int binary64 (pos digits)) digits k (round_whole binary64 false digits (omega (arith, small))) (omega arith))
-    go false e h = absurd (false≢true (ap is_number h))
+unfolding decimal of_int
+decimal-nearest whole places x h =
+    let digits = value_after 10 0 (whole ++ places) in
+    let k = length places in
+    let accepted = cond_some _ _ _ h in
+    let bounds : (digits < 10 ^ 15) × (k ≤ 22) = grind (arith, nat_tests, accepted.0) in
+    subst (λ (z : Float). Nearest binary64 (fraction digits (10 ^ k)) false z) accepted.1
+    (over-power (of_int binary64 (pos digits)) digits k (round_whole binary64 false digits (omega (arith, bounds.0))) (omega (arith, bounds.1)))

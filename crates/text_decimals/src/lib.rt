@@ -1,29 +1,15 @@
 // The numbers that digits write: counts, and decimals as the nearest double.
 #![tactic(auto)]
 
-ghost use Rattle.std.specs.Prelude.{◌≡◌, ◌≤◌, ◌^◌, min, pos};
+ghost use Rattle.std.specs.Prelude.{◌≡◌, ◌≤◌, ◌<◌, ◌^◌, min, pos};
 ghost use Rattle.std.specs.Float.{binary64};
 ghost use Rattle.std.specs.Float.Ieee.{of_int};
 ghost use Rattle.text_decimals.specs.Decimals.{digit, value_after, count_of, decimal};
 
-use text_tokens::{Class, between, run_of};
-
-// A count, or that the token is none.
-#[derive(Clone, Copy)]
-pub enum CountToken {
-    Count(u64),
-    NotACount,
-}
-
-// A float, or that the token is none.
-#[derive(Clone, Copy)]
-pub enum FloatToken {
-    Number(f64),
-    NotANumber,
-}
+use text_tokens::all_digits;
 
 // 10^15, which no decimal's digits may reach.
-const LIMIT: u64 = 1000000000000000;
+const LIMIT: u64 = 1_000_000_000_000_000;
 
 // The bits of 10^0 to 10^22, each exact.
 const POWERS_OF_TEN: [u64; 23] = [
@@ -54,51 +40,33 @@ const POWERS_OF_TEN: [u64; 23] = [
 
 // The value of a digit, and 0 of any other byte.
 pub fn digit(b: u8) -> u64
-    ensures { result ≡ digit b }
+    ensures value { result ≡ digit b }
+    ensures small { result < 16 }
 {
-    if between(48, 57, b) {
-        return (b - 48) as u64;
-    }
-    if between(65, 70, b) {
-        return (b - 55) as u64;
-    }
-    if between(97, 102, b) {
-        return (b - 87) as u64;
-    }
-    0
+    char::from(b).to_digit(16).map_or(0, u64::from)
 }
 
 // The number that decimal digits write after n, or LIMIT where it is that or more.
-fn decimal_after(n: u64, digits: &[u8]) -> u64
+fn decimal_after(mut n: u64, digits: &[u8]) -> u64
     requires { n ≤ 10 ^ 15 }
     ensures { result ≡ min (value_after 10 n digits.now) (10 ^ 15) }
 {
-    let mut value = n;
-    let mut i: usize = 0;
-    while i < digits.len() {
-        value = value * 10 + digit(digits[i]);
-        if value > LIMIT {
-            value = LIMIT;
-        }
-        i += 1;
+    for b in digits {
+        n = (n * 10 + digit(*b)).min(LIMIT);
     }
-    value
+    n
 }
 
-pub fn count_token(token: &[u8]) -> CountToken
+// A count, or that the token is none.
+#[tactic(auto, using(crate::proofs::Digits::nine_digits), unfolding(crate::specs::Decimals::count_of))]
+pub fn count_token(token: &[u8]) -> Option<u64>
     ensures { result ≡ count_of token.now }
 {
-    if run_of(Class::Digit, token, 0) != token.len() {
-        return CountToken::NotACount;
+    if all_digits(token) && (1..=9).contains(&token.len()) {
+        Some(decimal_after(0, token))
+    } else {
+        None
     }
-    if token.len() < 1 {
-        return CountToken::NotACount;
-    }
-    if token.len() > 9 {
-        return CountToken::NotACount;
-    }
-    let value = decimal_after(0, token);
-    CountToken::Count(value)
 }
 
 // 10^k.
@@ -109,22 +77,15 @@ fn power_of_ten(k: usize) -> f64
     ieee::from_bits(POWERS_OF_TEN[k])
 }
 
-// Digits before a point and digits after it.
-pub fn decimal(whole: &[u8], fraction: &[u8]) -> FloatToken
+// Digits before a point and digits after it, or that they write no float.
+pub fn decimal(whole: &[u8], fraction: &[u8]) -> Option<f64>
     ensures { result ≡ decimal whole.now fraction.now }
 {
-    if whole.len() < 1 {
-        return FloatToken::NotANumber;
-    }
     let before = decimal_after(0, whole);
     let value = decimal_after(before, fraction);
-    if value >= LIMIT {
-        return FloatToken::NotANumber;
-    }
     let k = fraction.len();
-    if k > 22 {
-        return FloatToken::NotANumber;
+    if whole.is_empty() || value >= LIMIT || k > 22 {
+        return None;
     }
-    let x = (value as f64) / power_of_ten(k);
-    FloatToken::Number(x)
+    Some((value as f64) / power_of_ten(k))
 }

@@ -1,42 +1,37 @@
 -- Floats as PROTOCOL.md writes them.
-use Rattle.std.specs.Prelude.{ℕ, true, false, ◌&&◌, cond, List, [], ◌∷◌, eqb, leb, length, take, drop}
+use Rattle.std.specs.Prelude.{ℕ, true, false, ◌&&◌, cond, List, [], ◌∷◌, eqb, leb, length, take, drop, codes, Option, None, Some, Float}
+use Rattle.std.specs.Char.{is_ascii_digit, is_ascii_hexdigit}
+use Rattle.std.specs.List.{list_all, prefix_len}
+use Rattle.std.specs.Option.{option_map}
+use Rattle.std.specs.Str.{bytes_eq}
 use Rattle.std.specs.Float.{nan, inf, binary64}
 use Rattle.std.specs.Float.Ieee.{neg, of_bits}
-use Rattle.text_tokens.specs.Tokens.{is_digit, is_hex_digit, leading, same_bytes}
-use Rattle.text_decimals.specs.Decimals.{all, value_after, decimal}
-use Rattle.text_decimals.specs.declared.FloatToken.{FloatToken}
-use Rattle.text_decimals.specs.declared.FloatToken.TheVariants.{Number, NotANumber}
-use Rattle.text_numbers.specs.declared.BitsToken.{BitsToken}
-use Rattle.text_numbers.specs.declared.BitsToken.TheVariants.{Bits, NotBits}
+use Rattle.text_decimals.specs.Decimals.{value_after, decimal}
 
 -- digits, and optionally a point and more digits
-unfoldable pub after_whole : List ℕ → List ℕ → FloatToken
+unfoldable pub after_whole : List ℕ → List ℕ → Option Float
 after_whole whole [] = decimal whole []
-after_whole whole (b ∷ fraction) = cond (eqb b 46 && (all is_digit fraction && leb 1 (length fraction))) (decimal whole fraction) NotANumber
+after_whole whole (b ∷ fraction) = cond (eqb b 46 && (list_all is_ascii_digit fraction && leb 1 (length fraction))) (decimal whole fraction) None
 
-unfoldable pub unsigned : List ℕ → FloatToken
-unsigned token = let n = leading is_digit token in after_whole (take n token) (drop n token)
-
-unfoldable pub negated : FloatToken → FloatToken
-negated (Number x) = Number (neg x)
-negated NotANumber = NotANumber
+unfoldable pub unsigned : List ℕ → Option Float
+unsigned token = let n = prefix_len is_ascii_digit token in after_whole (take n token) (drop n token)
 
 -- an optional `-`
-unfoldable pub signed : List ℕ → FloatToken
-signed [] = NotANumber
-signed (b ∷ token) = cond (eqb b 45) (negated (unsigned token)) (unsigned (b ∷ token))
+unfoldable pub signed : List ℕ → Option Float
+signed [] = None
+signed (b ∷ token) = cond (eqb b 45) (option_map neg (unsigned token)) (unsigned (b ∷ token))
 
 -- `NaN`, `inf`, `-inf`
-unfoldable pub named : List ℕ → FloatToken
+unfoldable pub named : List ℕ → Option Float
 named token =
-    cond (same_bytes token (78 ∷ 97 ∷ 78 ∷ [])) (Number nan)
-    (cond (same_bytes token (105 ∷ 110 ∷ 102 ∷ [])) (Number (inf false))
-    (cond (same_bytes token (45 ∷ 105 ∷ 110 ∷ 102 ∷ [])) (Number (inf true)) (signed token)))
+    cond (bytes_eq token (codes "NaN")) (Some nan)
+    (cond (bytes_eq token (codes "inf")) (Some (inf false))
+    (cond (bytes_eq token (codes "-inf")) (Some (inf true)) (signed token)))
 
 -- exactly 16 hexadecimal digits
-unfoldable pub bits_of : List ℕ → BitsToken
-bits_of token = cond (eqb (length token) 16 && all is_hex_digit token) (Bits (value_after 16 0 token)) NotBits
+unfoldable pub bits_of : List ℕ → Option ℕ
+bits_of token = cond (eqb (length token) 16 && list_all is_ascii_hexdigit token) (Some (value_after 16 0 token)) None
 
 -- exactly 16 hexadecimal digits are the bits, whatever else the token could be
-unfoldable pub float_of : List ℕ → FloatToken
-float_of token = cond (eqb (length token) 16 && all is_hex_digit token) (Number (of_bits binary64 (value_after 16 0 token))) (named token)
+unfoldable pub float_of : List ℕ → Option Float
+float_of token = cond (eqb (length token) 16 && list_all is_ascii_hexdigit token) (Some (of_bits binary64 (value_after 16 0 token))) (named token)

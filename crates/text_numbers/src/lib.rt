@@ -2,20 +2,15 @@
 #![tactic(auto)]
 
 ghost use Rattle.std.specs.Prelude.{◌≡◌, ◌+◌, ◌*◌, ◌/◌, ◌≤◌, min, length};
+ghost use Rattle.std.specs.Char.{is_ascii_digit};
+ghost use Rattle.std.specs.List.{prefix_len};
 ghost use Rattle.lists.specs.Copies.{copied};
 ghost use Rattle.text_decimals.specs.Decimals.{digit, value_after};
-ghost use Rattle.text_numbers.specs.Numbers.{unsigned, negated, signed, named, bits_of, float_of};
+ghost use Rattle.text_numbers.specs.Numbers.{unsigned, signed, named, bits_of, float_of};
 ghost use Rattle.text_numbers.specs.Pairs.{is_pairs, pairs_of};
 
-use text_decimals::{FloatToken, decimal, digit};
-use text_tokens::{Class, run_of, same_bytes};
-
-// 64 bits, or that the token is none.
-#[derive(Clone, Copy)]
-pub enum BitsToken {
-    Bits(u64),
-    NotBits,
-}
+use text_decimals::{decimal, digit};
+use text_tokens::{all_digits, all_hex_digits};
 
 // The number that hexadecimal digits write.
 fn hexadecimal(digits: &[u8]) -> u64
@@ -23,105 +18,87 @@ fn hexadecimal(digits: &[u8]) -> u64
     ensures { result ≡ value_after 16 0 digits.now }
 {
     let mut value: u64 = 0;
-    let mut i: usize = 0;
-    while i < digits.len() {
-        value = value * 16 + digit(digits[i]);
-        i += 1;
+    for b in digits {
+        value = value * 16 + digit(*b);
     }
     value
 }
 
-// Digits, and optionally a point and more digits.
-fn unsigned(token: &[u8]) -> FloatToken
-    ensures { result ≡ unsigned token.now }
+// How many digits a token begins with.
+fn leading_digits(token: &[u8]) -> usize
+    ensures { result ≡ prefix_len is_ascii_digit token.now }
 {
-    let n = run_of(Class::Digit, token, 0);
-    if n >= token.len() {
-        return decimal(token, &[]);
-    }
-    if token[n] != 46 {
-        return FloatToken::NotANumber;
-    }
-    let from = n + 1;
-    let end = run_of(Class::Digit, token, from);
-    if end != token.len() {
-        return FloatToken::NotANumber;
-    }
-    if end <= from {
-        return FloatToken::NotANumber;
-    }
-    decimal(&token[..n], &token[from..])
+    token.iter().take_while(|b| b.is_ascii_digit()).count()
 }
 
-fn negated(f: FloatToken) -> FloatToken
-    ensures { result ≡ negated f }
+// Digits, and optionally a point and more digits.
+fn unsigned(token: &[u8]) -> Option<f64>
+    ensures { result ≡ unsigned token.now }
 {
-    match f {
-        FloatToken::Number(x) => FloatToken::Number(-x),
-        FloatToken::NotANumber => FloatToken::NotANumber,
+    let (whole, rest) = token.split_at(leading_digits(token));
+    match rest {
+        [] => decimal(whole, &[]),
+        [b'.', fraction @ ..] => {
+            if all_digits(fraction) && !fraction.is_empty() {
+                decimal(whole, fraction)
+            } else {
+                None
+            }
+        }
+        _ => None,
     }
 }
 
 // An optional `-`.
-fn signed(token: &[u8]) -> FloatToken
+fn signed(token: &[u8]) -> Option<f64>
     ensures { result ≡ signed token.now }
 {
-    if token.len() < 1 {
-        return FloatToken::NotANumber;
+    match token {
+        [b'-', rest @ ..] => unsigned(rest).map(|x| -x),
+        _ => unsigned(token),
     }
-    if token[0] == 45 {
-        let start: usize = 1;
-        return negated(unsigned(&token[start..]));
-    }
-    unsigned(token)
 }
 
 // `NaN`, `inf`, `-inf`, or a decimal.
-fn named(token: &[u8]) -> FloatToken
+fn named(token: &[u8]) -> Option<f64>
     ensures { result ≡ named token.now }
 {
-    if same_bytes(token, b"NaN") {
-        return FloatToken::Number(0.0 / 0.0);
+    match token {
+        b"NaN" => Some(f64::NAN),
+        b"inf" => Some(f64::INFINITY),
+        b"-inf" => Some(f64::NEG_INFINITY),
+        _ => signed(token),
     }
-    if same_bytes(token, b"inf") {
-        return FloatToken::Number(1.0 / 0.0);
-    }
-    if same_bytes(token, b"-inf") {
-        return FloatToken::Number(-1.0 / 0.0);
-    }
-    signed(token)
 }
 
-// Exactly 16 hexadecimal digits.
-pub fn bits_token(token: &[u8]) -> BitsToken
+// The 64 bits that exactly 16 hexadecimal digits write, or that the token is none.
+#[tactic(auto, unfolding(crate::specs::Numbers::bits_of))]
+pub fn bits_token(token: &[u8]) -> Option<u64>
     ensures { result ≡ bits_of token.now }
 {
-    if token.len() != 16 {
-        return BitsToken::NotBits;
+    if token.len() != 16 || !all_hex_digits(token) {
+        return None;
     }
-    if run_of(Class::HexDigit, token, 0) != 16 {
-        return BitsToken::NotBits;
-    }
-    BitsToken::Bits(hexadecimal(token))
+    Some(hexadecimal(token))
 }
 
-pub fn float_token(token: &[u8]) -> FloatToken
+// A float, or that the token is none.
+#[tactic(auto, unfolding(crate::specs::Numbers::bits_of, crate::specs::Numbers::float_of))]
+pub fn float_token(token: &[u8]) -> Option<f64>
     ensures { result ≡ float_of token.now }
 {
     match bits_token(token) {
-        BitsToken::Bits(bits) => FloatToken::Number(ieee::from_bits(bits)),
-        BitsToken::NotBits => named(token),
+        Some(bits) => Some(ieee::from_bits(bits)),
+        None => named(token),
     }
 }
 
 // Whether a token is pairs of hexadecimal digits.
+#[tactic(auto, unfolding(crate::specs::Pairs::is_pairs))]
 pub fn is_pairs(token: &[u8]) -> bool
     ensures { result ≡ is_pairs token.now }
 {
-    if token.len() % 2 != 0 {
-        return false;
-    }
-    run_of(Class::HexDigit, token, 0) == token.len()
+    token.len() % 2 == 0 && all_hex_digits(token)
 }
 
 // The byte of two digits, the higher one first.
@@ -136,16 +113,9 @@ pub fn put_pairs(token: &[u8], bytes: &mut [u8]) -> usize
     ensures { (result ≡ min (length token.now / 2) (length bytes.old))
         × (bytes.new ≡ copied (pairs_of token.now) bytes.old) }
 {
-    let pairs = token.len() / 2;
-    let n = if pairs < bytes.len() {
-        pairs
-    } else {
-        bytes.len()
-    };
-    let mut i: usize = 0;
-    while i < n {
-        bytes[i] = pair(token[2 * i], token[2 * i + 1]);
-        i += 1;
+    let n = bytes.len().min(token.len() / 2);
+    for (i, byte) in bytes[..n].iter_mut().enumerate() {
+        *byte = pair(token[2 * i], token[2 * i + 1]);
     }
     n
 }

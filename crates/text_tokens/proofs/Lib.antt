@@ -1,2 +1,2 @@
--- The proofs that belong to no one function. Tokens: runs of bytes, and bytes compared.
-pub mod Tokens
+-- The proofs that belong to no one function. Laws: the first token of a line, and all of them.
+pub mod Laws

@@ -1,46 +1,33 @@
 -- Tokens of a line. A line is the list of its bytes.
-use Rattle.std.specs.Prelude.{ℕ, suc, ◌+◌, Bool, true, false, not, ◌&&◌, ◌||◌, cond, List, [], ◌∷◌, eqb, leb, drop}
-use Rattle.text_tokens.specs.declared.Class.{Class}
-use Rattle.text_tokens.specs.declared.Class.TheVariants.{Space, NotSpace, Digit, HexDigit}
-use Rattle.text_tokens.specs.declared.Span.{Span}
-
-unfoldable pub between : ℕ → ℕ → ℕ → Bool
-between lo hi b = leb lo b && leb b hi
-
--- `0` to `9`
-abbrev pub is_digit : ℕ → Bool
-is_digit b = between 48 57 b
-
--- and `A` to `F`, `a` to `f`
-unfoldable pub is_hex_digit : ℕ → Bool
-is_hex_digit b = is_digit b || (between 65 70 b || between 97 102 b)
+use Rattle.std.specs.Prelude.{ℕ, Bool, true, false, not, List, [], ◌∷◌, eqb, take, drop, Option, None, Some}
+use Rattle.std.specs.Borrow.{Bor}
+use Rattle.std.specs.List.{filter, position_or_len, slice_split}
 
 abbrev pub is_space : ℕ → Bool
 is_space b = eqb b 32
 
-unfoldable pub in_class : Class → ℕ → Bool
-in_class Space b = is_space b
-in_class NotSpace b = not (is_space b)
-in_class Digit b = is_digit b
-in_class HexDigit b = is_hex_digit b
+abbrev pub is_empty : List ℕ → Bool
+is_empty [] = true
+is_empty (b ∷ bytes) = false
 
--- how many bytes at the front are of a kind
-unfoldable pub leading : (ℕ → Bool) → List ℕ → ℕ
-leading p [] = 0
-leading p (b ∷ bytes) = cond (p b) (suc (leading p bytes)) 0
+-- a line without the spaces at its front
+unfoldable pub from_token : List ℕ → List ℕ
+from_token line = drop (position_or_len (λ b. not (is_space b)) line) line
 
--- where the run of bytes of a kind ends that begins at a place
-unfoldable pub run_end : (ℕ → Bool) → List ℕ → ℕ → ℕ
-run_end p bytes from = from + leading p (drop from bytes)
+-- what stands before the first space, where that is something, and the rest from the space on
+unfoldable pub up_to_space : List ℕ → Option (List ℕ × List ℕ)
+up_to_space [] = None
+up_to_space (b ∷ bytes) = let n = position_or_len is_space (b ∷ bytes) in Some (take n (b ∷ bytes), drop n (b ∷ bytes))
 
--- the first token from a place on: past the spaces, up to the next one. Where there is none it is empty.
-unfoldable pub next_token : List ℕ → ℕ → Span
-next_token line from =
-    let start = run_end is_space line from in
-    record { start = start; end = run_end (λ b. not (is_space b)) line start }
+-- the first token and what follows it: past the spaces, up to the next one. Where there is none, nothing.
+unfoldable pub next_token : List ℕ → Option (List ℕ × List ℕ)
+next_token line = up_to_space (from_token line)
 
-unfoldable pub same_bytes : List ℕ → List ℕ → Bool
-same_bytes [] [] = true
-same_bytes [] (c ∷ cs) = false
-same_bytes (b ∷ bs) [] = false
-same_bytes (b ∷ bs) (c ∷ cs) = eqb b c && same_bytes bs cs
+-- a token and what follows it, read
+abbrev pub parts : Option (Bor (List ℕ) × Bor (List ℕ)) → Option (List ℕ × List ℕ)
+parts None = None
+parts (Some p) = Some (p.0.now, p.1.now)
+
+-- the tokens of a line: what stands between its spaces, where that is something
+unfoldable pub tokens : List ℕ → List (List ℕ)
+tokens line = filter (λ token. not (is_empty token)) (slice_split is_space line)

@@ -1,93 +1,59 @@
-// The tokens of a request line: runs of bytes that are no spaces; and bytes by their kind, and compared.
+// The tokens of a request line: its runs of bytes that are no spaces; and tokens of digits alone.
 #![tactic(auto)]
 
-ghost use Rattle.std.specs.Prelude.{◌≡◌};
-ghost use Rattle.text_tokens.specs.Tokens.{between, is_hex_digit, in_class, run_end, next_token, same_bytes};
+ghost use Rattle.std.specs.Prelude.{◌≡◌, length};
+ghost use Rattle.std.specs.Char.{is_ascii_digit, is_ascii_hexdigit};
+ghost use Rattle.std.specs.Iterator.{YieldsFirstBy, at_most};
+ghost use Rattle.std.specs.List.{list_all};
+ghost use Rattle.text_tokens.specs.Tokens.{next_token, parts, tokens};
 
-// What kind of byte.
+// The first token of a line and what follows it, or that the line has none.
+pub fn next_token(line: &[u8]) -> Option<(&[u8], &[u8])>
+    ensures { parts result ≡ next_token line.now }
+{
+    let start = line.iter().position(|b| *b != b' ')?;
+    let token = &line[start..];
+    let end = token.iter().position(|b| *b == b' ').unwrap_or(token.len());
+    Some(token.split_at(end))
+}
+
+// The tokens of a line, one after the other.
 #[derive(Clone, Copy)]
-pub enum Class {
-    Space,
-    NotSpace,
-    Digit,
-    HexDigit,
+pub struct Tokens<'a> {
+    pub rest: &'a [u8],
 }
 
-// The bytes of a token: from start up to, not including, end.
-#[derive(Clone, Copy)]
-pub struct Span {
-    pub start: usize,
-    pub end: usize,
+impl<'a> Tokens<'a> {
+    pub fn new(line: &'a [u8]) -> Tokens<'a>
+        ensures { result.rest.now ≡ line.now }
+    {
+        Tokens { rest: line }
+    }
 }
 
-// Whether b lies from lo to hi.
-pub fn between(lo: u8, hi: u8, b: u8) -> bool
-    ensures { result ≡ between lo hi b }
+impl<'a> Iterator for Tokens<'a> {
+    type Item = &'a [u8];
+
+    ghost next_gives = { YieldsFirstBy (λ token. token.now) (λ s. tokens s.rest.now) };
+
+    ghost remaining = { λ s. at_most (length s.rest.now) };
+
+    fn next(&mut self) -> Option<&'a [u8]> {
+        let (token, rest) = next_token(self.rest)?;
+        self.rest = rest;
+        Some(token)
+    }
+}
+
+// This and the next are one call each: with the test as a parameter nothing would be left of them but `all`.
+pub fn all_digits(token: &[u8]) -> bool
+    ensures { result ≡ list_all is_ascii_digit token.now }
 {
-    if b < lo {
-        return false;
-    }
-    b <= hi
+    token.iter().all(u8::is_ascii_digit)
 }
 
-fn is_hex_digit(b: u8) -> bool
-    ensures { result ≡ is_hex_digit b }
+pub fn all_hex_digits(token: &[u8]) -> bool
+    ensures { result ≡ list_all is_ascii_hexdigit token.now }
 {
-    if between(48, 57, b) {
-        return true;
-    }
-    if between(65, 70, b) {
-        return true;
-    }
-    between(97, 102, b)
-}
-
-fn is_in(class: Class, b: u8) -> bool
-    ensures { result ≡ in_class class b }
-{
-    match class {
-        Class::Space => b == 32,
-        Class::NotSpace => b != 32,
-        Class::Digit => between(48, 57, b),
-        Class::HexDigit => is_hex_digit(b),
-    }
-}
-
-// Where the run of bytes of a class ends that begins at `from`.
-pub fn run_of(class: Class, bytes: &[u8], from: usize) -> usize
-    ensures { result ≡ run_end (in_class class) bytes.now from }
-{
-    let mut i = from;
-    while i < bytes.len() {
-        if !is_in(class, bytes[i]) {
-            return i;
-        }
-        i += 1;
-    }
-    i
-}
-
-// The first token of a line from a place on, empty where there is none.
-pub fn next_token(line: &[u8], from: usize) -> Span
-    ensures { result ≡ next_token line.now from }
-{
-    let start = run_of(Class::Space, line, from);
-    let end = run_of(Class::NotSpace, line, start);
-    Span { start, end }
-}
-
-pub fn same_bytes(a: &[u8], b: &[u8]) -> bool
-    ensures { result ≡ same_bytes a.now b.now }
-{
-    if a.len() != b.len() {
-        return false;
-    }
-    let mut i: usize = 0;
-    while i < a.len() {
-        if a[i] != b[i] {
-            return false;
-        }
-        i += 1;
-    }
-    true
+    token.iter().all(u8::is_ascii_hexdigit)
 }

@@ -1,32 +1,34 @@
 -- `c_designs::hand_out_taps` meets its contract.
-use mathlib.Core.Path.{◌≡◌, sym, ◌∙◌}
-use borrow.Author.Tests.{eq-eqb}
-use lib.ListN.{length}
-use Rattle.limits.specs.Limits.{max_taps}
-use Rattle.fir.specs.View.{made_view}
-use Rattle.c_layout.specs.Layout.{count_places}
+use mathlib.Core.Path.{refl, sym, ◌∙◌}
+use borrow.Author.Rules.{rules}
+use Rattle.std.proofs.lemmas.Result.{err_from_is_err_and}
+use Rattle.c_calls.proofs.Laws.{numbered}
 use Rattle.c_calls.specs.Kinds.{taps_counts}
 use Rattle.c_designs.proofs.Laws.{taps-lengths, made-unfit, made-refused, made-accepted}
-use Rattle.lists.proofs.Copies.{copied-same}
-use borrow.Author.Rules.{rules}
 use Rattle.c_designs.proofs.hand_out_taps.Goals as goal
 
 pub returns-then-not-has_tap_places : goal.returns-then-not-has_tap_places
 returns-then-not-has_tap_places c = made-unfit _ _ _ _ (sym c.has_tap_places.ensures ∙ c.if-not-has_tap_places.true)
 
-pub returns-then-refusal-ne0 : goal.returns-then-refusal-ne0
-returns-then-refusal-ne0 c = made-refused _ _ _ _ (sym c.has_tap_places.ensures ∙ c.if-not-has_tap_places.false) c.if-refusal-ne0.true
+pub returns-in_err-made : goal.returns-in_err-made
+returns-in_err-made c =
+    let places = sym c.has_tap_places.ensures ∙ c.if-not-has_tap_places.false in
+    let r = err_from_is_err_and c.from_residual.result c.from_residual.ensures.1 in
+    rw (r.1, r.2, c.in_err-made.was) (made-refused _ _ _ _ places (numbered _))
+
+pub copy_from_slice-requires : goal.copy_from_slice-requires
+copy_from_slice-requires c = let p = taps-lengths _ _ _ (sym c.has_tap_places.ensures ∙ c.if-not-has_tap_places.false) in search rules
+
+pub copy_from_slice-requires-2 : goal.copy_from_slice-requires-2
+copy_from_slice-requires-2 c = let p = taps-lengths _ _ _ (sym c.has_tap_places.ensures ∙ c.if-not-has_tap_places.false) in search rules
+
+pub copy_from_slice-requires-3 : goal.copy_from_slice-requires-3
+copy_from_slice-requires-3 c = (taps-lengths _ _ _ (sym c.has_tap_places.ensures ∙ c.if-not-has_tap_places.false)).2
 
 pub returns : goal.returns
 unfolding taps_counts
 returns c =
-    let f = c.args.m.filter in
-    let ts : length f.taps ≡ max_taps = search rules in
-    let ss : length f.samples ≡ max_taps = search rules in
-    let t = sym c.has_tap_places.ensures ∙ c.if-not-has_tap_places.false in
-    let l = taps-lengths _ _ _ t in
-    let cs = c.args.counts.now in
-    let taps-kept = c.copy.ensures ∙ copied-same f.taps c.args.taps.now (ts ∙ sym l.0) in
-    let samples-kept = c.copy-2.ensures ∙ copied-same f.samples c.args.samples.now (ss ∙ sym l.1) in
-    made-accepted (made_view c.args.m) _ _ _ t c.if-refusal-ne0.false taps-kept samples-kept
-    (rw (eq-eqb (length cs) count_places l.2) at c.put_counts.ensures.1)
+    let places = sym c.has_tap_places.ensures ∙ c.if-not-has_tap_places.false in
+    rw c.in_ok-made.was
+    (made-accepted _ _ _ _ places refl c.copy_from_slice.ensures.after c.copy_from_slice-2.ensures.after
+    (c.copy_from_slice-3.ensures.after ∙ rw c.from.ensures refl))

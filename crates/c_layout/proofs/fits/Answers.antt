@@ -14,12 +14,14 @@ pub bounds-counts-1 : goal.bounds-counts-1
 bounds-counts-1 c = let t = sym c.has_places.ensures ∙ c.if-not-has_places.false in
     omega (arith, (places-lengths c.args.numbers.now c.args.counts.now t).1)
 
-pub returns-then-counts-gt1 : goal.returns-then-counts-gt1
-returns-then-counts-gt1 c = fits-flagged _ _ (sym c.has_places.ensures ∙ c.if-not-has_places.false) (lt-leb _ _ c.if-counts-gt1.true)
-
 pub bounds-counts-2 : goal.bounds-counts-2
 bounds-counts-2 c = let t = sym c.has_places.ensures ∙ c.if-not-has_places.false in
     omega (arith, (places-lengths c.args.numbers.now c.args.counts.now t).1)
 
-pub returns : goal.returns
-returns c = fits_last _ _ (sym c.has_places.ensures ∙ c.if-not-has_places.false) (le-leb _ _ c.if-counts-gt1.false)
+pub returns-then-counts-le1 : goal.returns-then-counts-le1
+returns-then-counts-le1 c = fits_last _ _ (sym c.has_places.ensures ∙ c.if-not-has_places.false) (le-leb _ _ c.if-counts-le1.true)
+
+pub returns-else-counts-le1 : goal.returns-else-counts-le1
+returns-else-counts-le1 c =
+    let h = lt-leb _ _ c.if-counts-le1.false in
+    h ∙ fits-flagged _ _ (sym c.has_places.ensures ∙ c.if-not-has_places.false) h

@@ -1,14 +1,10 @@
 -- `fir_block::copy_back` meets its contract.
-use mathlib.Core.Path.{sym}
-use native.Mathlib.Omega.{arith}
-use lib.Ieee.{nan}
-use Rattle.lists.proofs.Overwriting.{overwrite-start, overwrite-turn}
-use Rattle.fir_theory.proofs.Line.{back_at, back-length}
+use Rattle.std.proofs.Common.{sym, arith}
+use Rattle.std.proofs.lemmas.List.{get_or-reverse}
+use Rattle.std.specs.Float.{nan}
+use Rattle.lists.proofs.Overwriting.{overwrite-turn}
 use Rattle.fir_block.proofs.copy_back.Goals as goal
 
-pub loop-i-init : goal.loop-i-init
-loop-i-init c = overwrite-start 0 (back-length _ _ _) (omega arith)
-
 pub loop-i-preserved : goal.loop-i-preserved
-loop-i-preserved c = let h = c.loop-i-test.true in
-    overwrite-turn _ _ nan (omega arith) h (sym (back_at _ _ _ _ h)) c.loop-i.invariant
+loop-i-preserved c =
+    overwrite-turn _ _ nan (omega arith) (omega arith) (sym (get_or-reverse c.args.from.now c.loop-i.i nan (omega arith))) c.loop-i.invariant

@@ -1,11 +1,8 @@
 -- `fir_block::copy_back` meets its contract.
-use Prim.Native.Nat.{◌-◌}
+use Rattle.std.proofs.Common.{length}
+use Rattle.std.specs.Prelude.{reverse}
 use Rattle.lists.proofs.Overwriting.{Overwriting}
-use Rattle.fir_theory.specs.Blocks.{back_from}
 use Rattle.fir_block.proofs.copy_back.Given as goal
 
 abbrev pub invariant-loop-i : goal.invariant-loop-i
-invariant-loop-i l = Overwriting l.initial.to 0 (back_from l.n l.x l.last) l.n l.to l.i
-
-abbrev pub decreases-loop-i : goal.decreases-loop-i
-decreases-loop-i l = l.n - l.i
+invariant-loop-i l = Overwriting l.initial.to 0 (reverse l.from) (length l.from) l.to l.i

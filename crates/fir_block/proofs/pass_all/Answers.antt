@@ -1,24 +1,18 @@
 -- `fir_block::pass_all` meets its contract.
-use Prim.Native.Nat.{◌-◌, min}
-use mathlib.Core.Path.{◌≡◌, refl}
-use native.Mathlib.Omega.{arith}
-use lib.ListN.{length}
-use lib.Ieee.{binary64}
-use Rattle.limits.specs.Limits.{max_taps}
-use Rattle.fir_theory.specs.Lent.{lent_taps}
-use Rattle.fir_theory.proofs.Long.{count_long, after-long, output-long}
+use Rattle.std.proofs.Common.{◌≡◌, ◌+◌, length, take, ap, ◌∙◌, length-take, arith}
+use Rattle.std.specs.Float.{binary64}
+use Rattle.fir_theory.proofs.Line.{both-stretches}
+use Rattle.fir_theory.proofs.Long.{first-stretch, second-stretch}
 use Rattle.fir_block.proofs.pass_all.Goals as goal
-use Rattle.fir_block.proofs.pass_all.Goals.{then-m-n, else-m-n}
 
-pub returns : goal.returns
-returns c =
-    let few : c.if-m-n.few ≡ min (length c.args.input.now - c.args.from) c.args.n =
-    elim c.if-m-n.branch [ then-m-n w ↦ omega arith | else-m-n w ↦ omega arith ] in
-    λ window g. let p = c.requires in
-    let w = c.line_of-line.ensures in
-    let r = lent_taps c.args.taps.now c.args.samples.now c.args.n c.args.n window in (
-      count_long max_taps binary64 r _ _ _ _ g refl p.2 p.3 p.4 refl few c.finite_run-age.ensures c.count_clouded-clouded.ensures,
-      after-long max_taps binary64 r _ _ _ _ g refl p.2 p.3 p.4 refl few _ w.1 c.keep_newest.ensures,
-      output-long max_taps binary64 r _ _ _ _ g refl p.2 p.3 p.4 refl few _ w.1 _ p.5 (omega (arith, w.0)) _
-          c.convolve.ensures.1 c.convolve-2.ensures.1,
-    )
+pub returns-clause-sums : goal.returns-clause-sums
+returns-clause-sums c =
+    let r = c.requires in
+    let input = c.args.input.now in
+    let few = c.min-few.result in
+    let front = length-take few input in
+    let n : length c.args.taps.now + few ≡ length c.args.samples.now + length (take few input) = omega (arith, front, r.samples) in
+    let line = ap (λ k. take k c.line_of-line.result) n ∙ c.line_of-line.ensures.filled in
+    both-stretches binary64 c.args.taps.now _ r.some (omega arith) c.args.samples.now input few
+    (c.convolve.ensures.output ∙ first-stretch binary64 _ _ r.some r.samples _ _ _ line (omega (arith, front)))
+    (c.convolve-2.ensures.output ∙ second-stretch binary64 _ _ r.some r.samples _ _ few (omega arith) (omega arith))

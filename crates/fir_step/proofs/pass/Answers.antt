@@ -1,26 +1,18 @@
 -- `fir_step::pass` meets its contract.
-use mathlib.Core.Path.{◌≡◌, ap, ◌∙◌}
-use native.Mathlib.Omega.{arith}
-use Prim.Native.Nat.{◌+◌, min}
-use lib.ListN.{length}
-use Rattle.fir_theory.proofs.Laws.{length-pushed}
+use Rattle.std.proofs.Common.{◌≤◌, length, ap, sym, ◌∙◌, length-take, arith}
+use Rattle.std.proofs.lemmas.List.{take-append-le}
+use Rattle.std.specs.Float.{binary64}
+use Rattle.limits.specs.Limits.{max_taps}
+use Rattle.limits.specs.Zero.{plus_zero}
+use Rattle.runs.specs.Runs.{marked}
+use Rattle.fir_theory.specs.Fir.{sum}
+use Rattle.fir_theory.proofs.Laws.{rooms, pushed_front, pass-is}
 use Rattle.fir_step.proofs.pass.Goals as goal
-use Rattle.fir_step.proofs.pass.Goals.{then-held-n, else-held-n}
-
-pub take_in-out-requires : goal.take_in-out-requires
-take_in-out-requires c = let p = c.requires in
-    (p.0, p.1, elim c.if-held-n.branch [ then-held-n w ↦ omega arith | else-held-n w ↦ omega arith ])
-
-pub clouds-clouded-requires : goal.clouds-clouded-requires
-clouds-clouded-requires c =
-    let held : c.if-held-n.held ≡ min (c.args.held + 1) c.args.n = elim c.if-held-n.branch [ then-held-n w ↦ omega arith | else-held-n w ↦ omega arith ] in
-    let t = c.take_in-out.ensures in
-    let p = c.requires in
-    let l = ap length t.0 ∙ length-pushed _ _ _ p.1 in
-    (omega arith, omega (arith, l), rw t.0 t.1)
 
 pub returns : goal.returns
 returns c =
-    let held : c.if-held-n.held ≡ min (c.args.held + 1) c.args.n = elim c.if-held-n.branch [ then-held-n w ↦ omega arith | else-held-n w ↦ omega arith ] in
-    let t = c.take_in-out.ensures in
-    (t.0, held, rw t.0 t.1, c.clouds-clouded.ensures)
+    let r = rooms max_taps _ c.requires.fit c.requires.good in
+    let t = c.take_in-y in
+    let held : c.min-counts.result ≤ length t.new.samples = omega (arith, t.auto.samples, length-take c.args.counts.now.length c.args.samples.now, r.1) in
+    let y = t.ensures.sum ∙ ap (sum binary64 plus_zero _) (sym (take-append-le _ _ _ held)) in
+    pass-is binary64 max_taps _ _ c.requires.good (pushed_front _ _ _ r.1 t.ensures.pushed) (omega arith) (c.marked.ensures ∙ ap (marked _) y)

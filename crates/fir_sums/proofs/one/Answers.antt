@@ -1,14 +1,14 @@
 -- `fir_sums::one` meets its contract.
-use mathlib.Core.Path.{refl}
-use native.Mathlib.Omega.{arith}
-use lib.Ieee.{binary64, of_bits}
-use Rattle.fir_theory.specs.Convolution.{sum_at}
-use Rattle.fir_theory.proofs.Sums.{one-turn}
+use Rattle.std.proofs.Common.{◌∙◌, rules}
+use Rattle.std.proofs.lemmas.Iterator.{YieldsList-from_slice, YieldsList-from_zip}
+use Rattle.std.proofs.lemmas.Iterator.Adapters.{YieldsList-from_rev_slice}
+use Rattle.std.proofs.lemmas.Iterator.Consumers.{fold_from_yields_List}
+use Rattle.std.specs.Float.{binary64}
+use Rattle.fir_theory.proofs.Laws.{add_product}
+use Rattle.fir_theory.proofs.Sums.{one-sum}
 use Rattle.fir_sums.proofs.one.Goals as goal
 
-pub loop-i-init : goal.loop-i-init
-unfolding sum_at of_bits
-loop-i-init c = (omega arith, refl)
-
-pub loop-i-preserved : goal.loop-i-preserved
-loop-i-preserved c = (omega arith, one-turn binary64 _ _ _ _ c.loop-i.invariant.1)
+pub returns : goal.returns
+returns c =
+    let pairs = YieldsList-from_zip (YieldsList-from_slice c.args.taps.now cc) (YieldsList-from_rev_slice c.args.x.now cc) in
+    fold_from_yields_List _ (add_product binary64) _ _ c.fold.ensures.ran pairs (λ s p t f k. search rules) ∙ one-sum binary64 _ _ c.requires

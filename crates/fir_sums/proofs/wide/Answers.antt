@@ -1,11 +1,15 @@
 -- `fir_sums::wide` meets its contract.
-use native.Mathlib.Omega.{arith}
-use lib.Ieee.{binary64}
+use Rattle.std.proofs.Common.{◌≡◌, ◌+◌, ◌*◌, ◌∙◌, arith}
+use Rattle.std.proofs.lemmas.List.{take_rest}
+use Rattle.std.specs.Float.{binary64}
 use Rattle.fir_theory.proofs.Sums.{out-start, out-turn}
 use Rattle.fir_sums.proofs.wide.Goals as goal
 
-pub loop-j-init : goal.loop-j-init
-loop-j-init c = out-start binary64 _ _ _ _ _ _ _
+pub loop-k-init : goal.loop-k-init
+loop-k-init c = out-start binary64 _ _ _
 
-pub loop-j-preserved : goal.loop-j-preserved
-loop-j-preserved c = out-turn binary64 _ _ _ _ _ _ _ 16 (omega arith) c.requires.3 c.sixteen-y.ensures c.put.ensures c.loop-j.invariant
+pub loop-k-preserved : goal.loop-k-preserved
+loop-k-preserved c =
+    let next : 16 * c.loop-k.k + 16 ≡ 16 * (c.loop-k.k + 1) = omega arith in
+    let ys = c.copy_from_slice.ensures.after ∙ rw take_rest at c.side_by_side.ensures in
+    rw (← next) (out-turn binary64 _ _ _ (16 * c.loop-k.k) 16 _ (omega arith) ys c.loop-k.invariant)

@@ -1,22 +1,20 @@
--- `ieee::nearest_root` meets its contract. The loop's invariant: the weight w is a power of two, y * w is what is left of m * 2 ^ 52 with q * q
--- taken off, and q + w is above the root. The measure is w.
-use mathlib.Core.Path.{refl}
-use Prim.Native.Nat.{◌/◌}
+-- `ieee::nearest_root` meets its contract. The loop's invariant, before the digit of weight 2 ^ (place - 1): y * 2 ^ place is what is left of m * 2 ^ 52
+-- with q * q taken off, and q + 2 ^ place is above the root.
+use mathlib.Core.Path.{◌≡◌}
+use Prim.Native.Nat.{◌-◌, ◌*◌, ◌%◌, ◌^◌}
 use native.Mathlib.Omega.{arith}
 use Rattle.ieee.proofs.Steps.{halved, taken, passed}
 use Rattle.ieee.proofs.nearest_root.Goals as goal
 
-pub loop-w-init : goal.loop-w-init
-loop-w-init c = ((52, refl), omega arith, omega arith, omega arith, omega arith)
+pub loop-place-preserved-then-t-y : goal.loop-place-preserved-then-t-y
+loop-place-preserved-then-t-y c =
+    let l = c.loop-place in
+    let h = halved l.place (omega arith) in
+    let w : 1 * 2 ^ (l.place - 1) % 2 ^ 64 ≡ 2 ^ (l.place - 1) = omega arith in
+    rw w (taken _ l.q l.y (2 ^ l.place) (2 ^ (l.place - 1)) h l.invariant.0 (omega arith), omega arith, omega arith, omega arith)
 
-pub loop-w-preserved-then-t-y : goal.loop-w-preserved-then-t-y
-loop-w-preserved-then-t-y c =
-    let l = c.loop-w in
-    let h = halved l.w l.invariant.0.0 l.invariant.0.1 c.loop-w-test.true in
-    (h.0, taken _ l.q l.y l.w (l.w / 2) h.1 l.invariant.1 (omega arith), omega arith, omega arith, omega arith)
-
-pub loop-w-preserved : goal.loop-w-preserved
-loop-w-preserved c =
-    let l = c.loop-w in
-    let h = halved l.w l.invariant.0.0 l.invariant.0.1 c.loop-w-test.true in
-    (h.0, passed _ l.q l.y l.w (l.w / 2) h.1 l.invariant.1, omega arith, omega arith, omega arith)
+pub loop-place-preserved : goal.loop-place-preserved
+loop-place-preserved c =
+    let l = c.loop-place in
+    let h = halved l.place (omega arith) in
+    (passed _ l.q l.y (2 ^ l.place) (2 ^ (l.place - 1)) h l.invariant.0, omega arith, omega arith, omega arith)

@@ -1,11 +1,9 @@
--- `ieee::nearest_root` meets its contract. The loop's invariant: the weight w is a power of two, y * w is what is left of m * 2 ^ 52 with q * q
--- taken off, and q + w is above the root. The measure is w.
+-- `ieee::nearest_root` meets its contract. The loop's invariant, before the digit of weight 2 ^ (place - 1): y * 2 ^ place is what is left of m * 2 ^ 52
+-- with q * q taken off, and q + 2 ^ place is above the root.
 use mathlib.Core.Path.{◌≡◌}
-use Prim.Native.Nat.{ℕ, ◌+◌, ◌*◌, ◌^◌, ◌≤◌, ◌<◌}
+use Prim.Native.Nat.{◌+◌, ◌*◌, ◌^◌, ◌≤◌, ◌<◌}
 use Rattle.ieee.proofs.nearest_root.Given as goal
 
-abbrev pub invariant-loop-w : goal.invariant-loop-w
-invariant-loop-w l = ((k : ℕ) × (l.w ≡ 2 ^ k)) × (l.y * l.w + l.q * l.q ≡ l.m * 2 ^ 52) × (l.y < l.q + l.q + l.w) × (l.q + l.w ≤ 2 ^ 53) × (2 ^ 52 ≤ l.q)
-
-abbrev pub decreases-loop-w : goal.decreases-loop-w
-decreases-loop-w l = l.w
+abbrev pub invariant-loop-place : goal.invariant-loop-place
+invariant-loop-place l =
+    (l.y * 2 ^ l.place + l.q * l.q ≡ l.m * 2 ^ 52) × (l.y < l.q + l.q + 2 ^ l.place) × (l.q + 2 ^ l.place ≤ 2 ^ 53) × (2 ^ 52 ≤ l.q)

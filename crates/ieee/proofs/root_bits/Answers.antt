@@ -4,13 +4,7 @@ use Rattle.ieee.proofs.Halves.{some_left, one_up}
 use Rattle.ieee.proofs.root_bits.Goals as goal
 
 pub loop-m-preserved : goal.loop-m-preserved
-loop-m-preserved c = (
-  one_up c.loop-m.m c.args.b c.loop-m.e c.loop-m.invariant.0
-      (some_left c.loop-m.m c.args.b c.loop-m.e c.loop-m.invariant.0 c.loop-m.invariant.1
-      c.loop-m-test.true),
-  omega arith,
-  omega arith,
-  omega arith,
-  omega arith,
-  omega arith,
-)
+loop-m-preserved c =
+    let l = c.loop-m in
+    let left = some_left l.m c.args.b l.e l.invariant.0 c.requires.0 c.loop-m-test.true in
+    (one_up l.m c.args.b l.e l.invariant.0 left, omega arith, omega arith, omega arith)

@@ -3,7 +3,7 @@ use mathlib.Core.Path.{◌≡◌, refl, sym, subst}
 use mathlib.Core.Bool.{Bool, true, not}
 use native.Mathlib.Omega.{arith}
 use lib.Dec.{T}
-use lib.Ieee.{Float, binary64, nan_bits, of_bits, to_bits, sub, fits}
+use lib.Ieee.{Float, binary64, of_bits, to_bits, sub, fits}
 use lib.Ieee.Bits.{of_bits-to_bits}
 use Rattle.ieee.specs.Sqrt.{Sqrt, sqrt_of}
 use Rattle.ieee.proofs.Unique.{sqrt-unique}
@@ -16,9 +16,6 @@ both x r h = (sqrt-unique binary64 x r (sqrt_of binary64 x) h (sqrt_of-correct b
 
 own : (x : Float) → fits binary64 x ≡ true → of_bits binary64 (to_bits binary64 x) ≡ x
 own x h = of_bits-to_bits binary64 x (subst T (sym h) tt)
-
-pub float_from_bits-infinity : goal.float_from_bits-infinity
-float_from_bits-infinity c = unfold nan_bits in tt
 
 pub returns-then-x : goal.returns-then-x
 unfolding of_bits sub

@@ -4,6 +4,3 @@ use Rattle.j211.proofs.pass_backward.Given as goal
 
 abbrev pub invariant-loop-i : goal.invariant-loop-i
 invariant-loop-i l = Backward l.k l.initial.buffer l.h l.buffer l.i
-
-abbrev pub decreases-loop-i : goal.decreases-loop-i
-decreases-loop-i l = l.i

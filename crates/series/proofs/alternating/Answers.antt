@@ -1,17 +1,11 @@
 -- `series::alternating` meets its contract.
-use Rattle.series.specs.Series.{horner, alternating_of}
+use mathlib.Core.Path.{◌∙◌}
+use Prim.Native.Nat.{◌+◌, ◌*◌}
+use borrow.Author.Rules.{rules}
+use Rattle.series.specs.Series.{inv_fact}
+use Rattle.series.proofs.Turns.{turned, alternating-all}
 use Rattle.series.proofs.alternating.Goals as goal
 
 pub returns : goal.returns
-unfolding alternating_of horner
-returns c =
-    rw (
-      c.inverse_factorial-p.ensures,
-      c.inverse_factorial.ensures,
-      c.inverse_factorial-2.ensures,
-      c.inverse_factorial-3.ensures,
-      c.inverse_factorial-4.ensures,
-      c.inverse_factorial-5.ensures,
-      c.inverse_factorial-6.ensures,
-      c.inverse_factorial-7.ensures,
-    )
+unfolding turned
+returns c = c.horner.ensures (λ i. turned i (inv_fact (c.args.k + 2 * i))) (λ i y h p. search rules) ∙ alternating-all c.args.k c.args.s

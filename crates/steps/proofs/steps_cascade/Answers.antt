@@ -1,18 +1,20 @@
 -- `steps::steps_cascade` meets its contract.
-use Rattle.steps.specs.Steps.{cascade_steps}
-use Rattle.steps.proofs.Laws.{steps-refused, steps-short, steps-ran}
+use mathlib.Core.Path.{refl, ap, ◌∙◌}
+use lib.Ieee.{binary64}
+use Rattle.std.specs.Prelude.{Ok, Err}
+use Rattle.cascade_theory.specs.Cascade.{cascade}
+use Rattle.cascade.specs.View.{cascade_view}
+use Rattle.design_cascade.specs.Design.{CascadeDesignRecord}
+use Rattle.design_cascade.specs.View.{design_view}
+use Rattle.steps.specs.Steps.{steps_of, cascade_steps}
+use Rattle.steps.proofs.Laws.{steps_viewed}
 use Rattle.steps.proofs.steps_cascade.Goals as goal
-
-pub returns-then-refusal-ne0 : goal.returns-then-refusal-ne0
-unfolding cascade_steps
-returns-then-refusal-ne0 c = rw (← c.design_butterworth_lp_raw-d.ensures) (steps-refused _ _ _ _ _ c.if-refusal-ne0.true)
-
-pub returns-then-output-input : goal.returns-then-output-input
-unfolding cascade_steps
-returns-then-output-input c = rw (← c.design_butterworth_lp_raw-d.ensures) (steps-short _ _ _ _ _ c.if-refusal-ne0.false c.if-output-input.true)
 
 pub returns : goal.returns
 unfolding cascade_steps
 returns c =
-    rw (← c.design_butterworth_lp_raw-d.ensures)
-    (steps-ran _ _ _ _ _ c.if-refusal-ne0.false c.if-output-input.false c.run_cascade.ensures)
+    let a = c.args in
+    let viewed = steps_viewed (cascade binary64) cascade_view design_view (λ (d : CascadeDesignRecord). d.refusal) (λ (d : CascadeDesignRecord). d.cascade)
+    (elim [ Ok r ↦ refl | Err n ↦ refl ]) (λ r. refl) c.design_butterworth_lp_raw-made.result a.input.now a.output.now in
+    ap (λ n. record { refusal = n; output = c.steps.new.output }) c.number_in.ensures ∙ c.steps.ensures ∙ viewed
+    ∙ ap (λ (d : CascadeDesignRecord). steps_of (cascade binary64) d.refusal d.cascade a.input.now a.output.now) c.design_butterworth_lp_raw-made.ensures

@@ -1,23 +1,23 @@
 -- `text_numbers::named` meets its contract.
-use lib.Ieee.{neg, div, of_bits}
-use Rattle.text_numbers.specs.Numbers.{named}
+use Rattle.std.proofs.Common.{rules, arith, ◌∙◌, codes}
+use Rattle.std.proofs.lemmas.Grind.{common_steps}
+use Rattle.std.proofs.lemmas.Slice.Eq.{text_from_reads}
+use Rattle.std.specs.Float.Ieee.{of_bits}
+use Rattle.text_numbers.proofs.Numbers.{named-nan, named-inf, named-minus-inf, named-other}
 use Rattle.text_numbers.proofs.named.Goals as goal
 
-pub returns-then-same_bytes : goal.returns-then-same_bytes
-unfolding named div of_bits
-returns-then-same_bytes c = rw (← c.same_bytes.ensures, c.if-same_bytes.true)
+pub returns-in-NaN : goal.returns-in-NaN
+unfolding of_bits
+returns-in-NaN c = named-nan _ (text_from_reads c.args.token.now (codes "NaN") (omega arith) (search rules))
 
-pub returns-then-same_bytes-2 : goal.returns-then-same_bytes-2
-unfolding named div of_bits
-returns-then-same_bytes-2 c = rw (← c.same_bytes.ensures, c.if-same_bytes.false, ← c.same_bytes-2.ensures, c.if-same_bytes-2.true)
+pub returns-in-inf : goal.returns-in-inf
+unfolding of_bits
+returns-in-inf c = named-inf _ (text_from_reads c.args.token.now (codes "inf") (omega arith) (search rules))
 
-pub returns-then-same_bytes-3 : goal.returns-then-same_bytes-3
-unfolding named neg div of_bits
-returns-then-same_bytes-3 c =
-    rw (← c.same_bytes.ensures, c.if-same_bytes.false, ← c.same_bytes-2.ensures, c.if-same_bytes-2.false, ← c.same_bytes-3.ensures, c.if-same_bytes-3.true)
+pub returns-in-45 : goal.returns-in-45
+unfolding of_bits
+returns-in-45 c = named-minus-inf _ (text_from_reads c.args.token.now (codes "-inf") (omega arith) (search rules))
 
-pub returns : goal.returns
-unfolding named
-returns c =
-    rw (← c.same_bytes.ensures, c.if-same_bytes.false, ← c.same_bytes-2.ensures, c.if-same_bytes-2.false, ← c.same_bytes-3.ensures, c.if-same_bytes-3.false)
-    c.signed.ensures
+pub returns-in_default : goal.returns-in_default
+returns-in_default c =
+    c.signed.ensures ∙ named-other c.args.token.now (λ e. grind (arith, common_steps)) (λ e. grind (arith, common_steps)) (λ e. grind (arith, common_steps))

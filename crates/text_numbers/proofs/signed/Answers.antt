@@ -1,15 +1,16 @@
 -- `text_numbers::signed` meets its contract.
-use mathlib.Core.Path.{ap, ◌∙◌}
-use Rattle.text_numbers.specs.Numbers.{negated}
-use Rattle.text_numbers.proofs.Numbers.{signed-none, signed-minus, signed-plain}
+use Rattle.std.proofs.Common.{rules, arith, ◌≡◌, ◌∙◌, ap}
+use Rattle.std.proofs.lemmas.Grind.{common_steps}
+use Rattle.std.proofs.lemmas.List.{take_rest}
+use Rattle.std.specs.Float.Ieee.{neg}
+use Rattle.std.specs.Option.{option_map}
+use Rattle.text_numbers.proofs.Numbers.{signed-minus, signed-plain}
 use Rattle.text_numbers.proofs.signed.Goals as goal
 
-pub returns-then-token-lt1 : goal.returns-then-token-lt1
-returns-then-token-lt1 c = signed-none _ c.if-token-lt1.true
+pub returns-in-45 : goal.returns-in-45
+returns-in-45 c =
+    let m : c.map.result ≡ option_map neg c.unsigned.result = search rules in
+    m ∙ ap (option_map neg) (rw take_rest at c.unsigned.ensures) ∙ signed-minus c.args.token.now (omega arith) (search rules)
 
-pub returns-then-token-eq45 : goal.returns-then-token-eq45
-returns-then-token-eq45 c =
-    c.negated.ensures ∙ ap negated c.unsigned.ensures ∙ signed-minus _ c.if-token-lt1.false c.if-token-eq45.true
-
-pub returns : goal.returns
-returns c = c.unsigned-2.ensures ∙ signed-plain _ c.if-token-lt1.false c.if-token-eq45.false
+pub returns-in_default : goal.returns-in_default
+returns-in_default c = c.unsigned-in_default.ensures ∙ signed-plain c.args.token.now (λ l e. grind (arith, common_steps))

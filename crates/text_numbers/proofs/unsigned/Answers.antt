@@ -1,23 +1,30 @@
 -- `text_numbers::unsigned` meets its contract.
-use mathlib.Core.Path.{◌∙◌}
-use Rattle.text_numbers.proofs.Numbers.{unsigned-whole, unsigned-other, unsigned-letters, unsigned-bare, unsigned_is}
+use Rattle.std.proofs.Common.{rules, arith, ◌∙◌}
+use Rattle.std.proofs.lemmas.Grind.{common_steps}
+use Rattle.std.proofs.lemmas.List.{take_rest}
+use Rattle.std.proofs.lemmas.List.Sums.{prefix_len-le-length}
+use Rattle.std.specs.Char.{is_ascii_digit}
+use Rattle.text_numbers.proofs.Numbers.{after-whole, after-point, after-other, parted}
 use Rattle.text_numbers.proofs.unsigned.Goals as goal
 
-pub returns-then-n-token : goal.returns-then-n-token
-returns-then-n-token c = c.decimal.ensures ∙ unsigned-whole _ _ c.run_of-n.ensures c.if-n-token.true
+pub split_at-requires : goal.split_at-requires
+split_at-requires c = omega (arith, c.leading_digits.ensures, prefix_len-le-length is_ascii_digit c.args.token.now)
 
-pub returns-then-token-n-ne46 : goal.returns-then-token-n-ne46
-returns-then-token-n-ne46 c = unsigned-other _ _ c.run_of-n.ensures c.if-n-token.false c.if-token-n-ne46.true
+pub returns-in-empty : goal.returns-in-empty
+returns-in-empty c =
+    c.decimal.ensures ∙ after-whole _ _ c.in-empty.len_below ∙ parted _ c.leading_digits.ensures c.split_at.ensures.front c.split_at.ensures.back
 
-pub returns-then-end-token : goal.returns-then-end-token
-returns-then-end-token c =
-    unsigned-letters _ _ c.run_of-n.ensures c.if-n-token.false c.run_of-end.ensures c.if-end-token.true
+pub returns-then-not-is_empty : goal.returns-then-not-is_empty
+returns-then-not-is_empty c =
+    let a = rw take_rest at c.all_digits.ensures in
+    (rw take_rest at c.decimal-then-not-is_empty.ensures) ∙ after-point _ _ (omega arith) (search rules) (grind arith) (grind (arith, common_steps))
+    ∙ parted _ c.leading_digits.ensures c.split_at.ensures.front c.split_at.ensures.back
 
-pub returns-then-end-from : goal.returns-then-end-from
-returns-then-end-from c =
-    unsigned-bare _ _ c.run_of-n.ensures c.if-n-token.false c.if-end-token.false c.if-end-from.true
+pub returns-else-all_digits : goal.returns-else-all_digits
+returns-else-all_digits c =
+    let a = rw take_rest at c.all_digits.ensures in
+    after-other _ _ (omega arith) (λ e d l. grind (arith, common_steps)) ∙ parted _ c.leading_digits.ensures c.split_at.ensures.front c.split_at.ensures.back
 
-pub returns : goal.returns
-returns c =
-    c.decimal-2.ensures ∙ unsigned_is _ _ c.run_of-n.ensures c.if-n-token.false c.if-token-n-ne46.false
-    c.run_of-end.ensures c.if-end-token.false c.if-end-from.false
+pub returns-in_default : goal.returns-in_default
+returns-in_default c =
+    after-other _ _ (omega arith) (λ e d l. grind (arith, common_steps)) ∙ parted _ c.leading_digits.ensures c.split_at.ensures.front c.split_at.ensures.back

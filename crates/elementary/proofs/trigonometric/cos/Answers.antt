@@ -1,15 +1,10 @@
 -- `elementary::trigonometric::cos` meets its contract.
-use lib.Ieee as Ieee
-use Rattle.elementary.specs.Trigonometric.{cos_of}
-use Rattle.elementary.proofs.Bounds.{turnable-is, turnable-within}
+use borrow.Author.Rules.{rules}
+use lib.Ieee.{of_bits}
+use Rattle.elementary.specs.Trigonometric.{cos_in, cos_of}
+use Rattle.elementary.proofs.Bounds.{angle-or}
 use Rattle.elementary.proofs.trigonometric.cos.Goals as goal
 
-pub reduced-requires : goal.reduced-requires
-reduced-requires c = turnable-within _ (turnable-is _ c.abs.ensures c.if-abs.true)
-
-pub returns-then-abs : goal.returns-then-abs
-unfolding cos_of
-returns-then-abs c = rw (c.cos_in.ensures, c.reduced.ensures, turnable-is _ c.abs.ensures c.if-abs.true)
-
-pub returns-else-abs : goal.returns-else-abs
-returns-else-abs c = unfold cos_of Ieee.div Ieee.of_bits in rw (turnable-is _ c.abs.ensures c.if-abs.false)
+pub returns : goal.returns
+unfolding cos_of of_bits
+returns c = angle-or c.args.x c.of.result c.map_or.result cos_in c.of.ensures c.map_or.ensures (λ a h. search rules)

@@ -11,6 +11,6 @@ use Rattle.sections.proofs.parts.pass_sections.Goals as goal
 pub returns : goal.returns
 returns c =
     let four : length c.args.sections ≡ max_sections = search rules in
-    four-turns binary64 section_view c.args.sections _ c.args.count c.args.x four (turned binary64 c.turn-p0.ensures)
-    (turned binary64 c.turn-p1.ensures) (turned binary64 c.turn-p2.ensures)
-    (turned binary64 c.turn-p3.ensures)
+    four-turns binary64 section_view c.args.sections _ c.args.count c.args.x four (turned binary64 c.process_if-p0.ensures)
+    (turned binary64 c.process_if-p1.ensures) (turned binary64 c.process_if-p2.ensures)
+    (turned binary64 c.process_if-p3.ensures)

@@ -1,7 +1,0 @@
--- `c_blocks::filters::fir_part` meets its contract. The copy is the part.
-use Rattle.c_blocks.proofs.InPlace.{part-ran}
-use Rattle.c_blocks.proofs.filters.fir_part.Goals as goal
-
-pub returns : goal.returns
-returns c =
-    part-ran _ c.no_samples-input.result c.no_samples-input.ensures c.requires c.copy.ensures _ _ _ _ c.fir_block.ensures

@@ -1,7 +1,0 @@
--- `claims_numbers::operators_f32::sum_f32` meets its contract.
-use lib.Ieee.{binary32}
-use Rattle.ieee.proofs.Arithmetic.{add-correct}
-use Rattle.claims_numbers.proofs.operators_f32.sum_f32.Goals as goal
-
-pub returns : goal.returns
-returns c = add-correct binary32 c.args.x c.args.y

@@ -1,0 +1,2 @@
+-- Kept: what a call on a lent record leaves as it was.
+pub mod Kept

@@ -1,9 +1,0 @@
--- `sheet::parameters::read_floats` meets its contract. The loop's invariant: its counter is at most the number of places.
-use Rattle.std.proofs.Common.{◌-◌, ◌≤◌, length}
-use Rattle.sheet.proofs.parameters.read_floats.Given as goal
-
-abbrev pub invariant-loop-i : goal.invariant-loop-i
-invariant-loop-i l = l.i ≤ length l.numbers
-
-abbrev pub decreases-loop-i : goal.decreases-loop-i
-decreases-loop-i l = length l.numbers - l.i

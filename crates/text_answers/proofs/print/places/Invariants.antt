@@ -1,9 +1,0 @@
--- `text_answers::print::places` meets its contract.
-use Rattle.text_answers.proofs.Texts.{Counting}
-use Rattle.text_answers.proofs.print.places.Given as goal
-
-abbrev pub invariant-loop-rest : goal.invariant-loop-rest
-invariant-loop-rest l = Counting l.n l.k l.rest
-
-abbrev pub decreases-loop-rest : goal.decreases-loop-rest
-decreases-loop-rest l = l.rest
