@@ -63,11 +63,11 @@ pub fn block_in_place<L: Lent>(
         return Err(Refusal::BadCall);
     }
     lent.block(&[], &mut [])?;
-    let mut samples = [0.0; PART];
     let mut total = 0;
     for from in (0..buffer.len()).step_by(PART) {
         let to = from + PART.min(buffer.len() - from);
         let part = &mut buffer[from..to];
+        let mut samples = [0.0; PART];
         let input = &mut samples[..part.len()];
         input.copy_from_slice(part);
         total += lent.block(input, part)?;

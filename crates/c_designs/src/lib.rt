@@ -73,7 +73,8 @@ fn coeffs_refused(coeffs: &[f64]) -> bool
     coeffs.is_empty() || coeffs.len() > TapRecord::MAX_TAPS
 }
 
-// Ready-made taps into the places of a tap record. They go straight there: a record on the way takes stack.
+// Ready-made taps into the places of a tap record. They go straight there: a record on the way takes stack. They are copied one by
+// one: `copy_from_slice` would take memmove from the program that the archive is linked into.
 fn put_coeffs(coeffs: &[f64], taps: &mut [f64], samples: &mut [f64], counts: &mut [usize])
     requires few { length coeffs.now ≤ max_taps }
     requires places { (length taps.old ≡ max_taps) × (length samples.old ≡ max_taps) × (length counts.old ≡ count_places) }
@@ -82,7 +83,9 @@ fn put_coeffs(coeffs: &[f64], taps: &mut [f64], samples: &mut [f64], counts: &mu
     ensures counts { counts.new ≡ length coeffs.now ∷ 0 ∷ ready_made ∷ [] }
 {
     let (front, back) = taps.split_at_mut(coeffs.len());
-    front.copy_from_slice(coeffs);
+    for (i, place) in front.iter_mut().enumerate() {
+        *place = coeffs[i];
+    }
     back.fill(0.0);
     samples.fill(0.0);
     counts.copy_from_slice(&[coeffs.len(), 0, usize::from(TapRecord::READY_MADE)]);

@@ -3,6 +3,8 @@
 
 ghost use Rattle.std.specs.Prelude.{◌≡◌};
 ghost use Rattle.runs.specs.View.{refusal_in};
+ghost use Rattle.cascade.specs.View.{cascade_view};
+ghost use Rattle.fir.specs.View.{taps_view};
 ghost use Rattle.design_cascade.specs.View.{design_view};
 ghost use Rattle.design_request.specs.Request.{check_request, of_cascade, design_of, design_by_default};
 ghost use Rattle.design_request.specs.View.{finite_in, designed_view, design_in};
@@ -70,6 +72,27 @@ impl Coefficients for Designed {
             Designed::Cascade(cascade) => cascade.coefficients_are_finite(),
             Designed::Fir(filter) => filter.coefficients_are_finite(),
         }
+    }
+}
+
+// The records that a design returns. The one not asked for is blank.
+#[derive(Clone, Copy)]
+pub struct Records {
+    pub cascade: Cascade,
+    pub filter: TapRecord,
+}
+
+// Those of a design or of ready-made taps. What is refused returns its number and both records blank.
+pub fn records_of(made: Result<Designed, Refusal>) -> Records
+    ensures cascade { cascade_view result.cascade ≡ (designed_view made).cascade }
+    ensures filter { taps_view result.filter ≡ (designed_view made).filter }
+{
+    let cascade = Cascade::blank();
+    let filter = TapRecord::blank();
+    match made {
+        Ok(Designed::Cascade(cascade)) => Records { cascade, filter },
+        Ok(Designed::Fir(filter)) => Records { cascade, filter },
+        Err(_) => Records { cascade, filter },
     }
 }
 

@@ -9,10 +9,10 @@ use Rattle.ieee.proofs.Patterns.{normal, below_no_nan}
 use Rattle.elementary.specs.Exponential.{Scale, pow2}
 use Rattle.scalar.proofs.Values.{minus-same, minus_pos, minus-neg, sum_is}
 
-biased-below : (b : ℕ) → b < 2047 → b * 2 ^ 52 < 2047 * 2 ^ 52
+pub biased-below : (b : ℕ) → b < 2047 → b * 2 ^ 52 < 2047 * 2 ^ 52
 biased-below b h = omega arith
 
-biased-is : (b : ℕ) → 0 < b → b < 2047 → of_bits binary64 (b * 2 ^ 52) ≡ fin false 1 (minus b 1023)
+pub biased-is : (b : ℕ) → 0 < b → b < 2047 → of_bits binary64 (b * 2 ^ 52) ≡ fin false 1 (minus b 1023)
 biased-is zero h B = absurd (lt_irrefl 0 h)
 biased-is (suc x) h B =
     normal (suc x * 2 ^ 52) (omega arith) (biased-below (suc x) B)

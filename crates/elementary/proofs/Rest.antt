@@ -15,13 +15,13 @@ use Rattle.ieee.proofs.Fractions.{Half, closest-half}
 use Rattle.elementary.specs.Whole.{Within, signed, nearest_of, NearestWhole}
 
 -- ---- how large it is
-whole_le : (x : Float) → Within (2 ^ 52) x → num x / den x ≤ 2 ^ 52
+pub whole_le : (x : Float) → Within (2 ^ 52) x → num x / den x ≤ 2 ^ 52
 unfolding Within
 whole_le nan h = absurd h
 whole_le (inf s) h = absurd h
 whole_le (fin s m e) h = div-le_of_le-mul (down e) (le_trans h (le_of_eq (mul_comm (2 ^ 52) (down e))))
 
-closest-le : (x : Float) → Within (2 ^ 52) x → closest (num x) (den x) ≤ 2 ^ 53
+pub closest-le : (x : Float) → Within (2 ^ 52) x → closest (num x) (den x) ≤ 2 ^ 53
 closest-le x h = le_trans (nearest-le (num x / den x) (compare (num x % den x * 2) (den x))) (le_trans (suc-le-suc (whole_le x h)) (lit≤ tt))
 
 -- ---- a float that is a whole number of at most 2 ^ 53 in size: its order with the ends of the signed numbers, and its cast

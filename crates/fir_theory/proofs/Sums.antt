@@ -43,7 +43,7 @@ scaled-drop f (y ∷ sums) t x a k =
 
 -- ---- one tap more at each of the sums
 module _ (f : Format) (taps : List Float) (x : List Float) where
-  sums-more : (i k m : ℕ) → i ≤ k → scaled f (sums_from f taps i x k m) (get_or taps i nan) x (k - i) ≡ sums_from f taps (suc i) x k m
+  pub sums-more : (i k m : ℕ) → i ≤ k → scaled f (sums_from f taps i x k m) (get_or taps i nan) x (k - i) ≡ sums_from f taps (suc i) x k m
   unfolding scaled sums_from sum_at
   sums-more i k zero h = refl
   sums-more i k (suc m) h =
@@ -69,7 +69,7 @@ module _ (f : Format) (taps : List Float) (x : List Float) where
   sums_at n k (suc m) (suc j) h = rw (add-suc, ← suc-add) (sums_at n (suc k) m j (omega arith))
 
   -- ---- sums at one place after the other
-  sums-append : (n k a b : ℕ) → sums_from f taps n x k (a + b) ≡ sums_from f taps n x k a ++ sums_from f taps n x (k + a) b
+  pub sums-append : (n k a b : ℕ) → sums_from f taps n x k (a + b) ≡ sums_from f taps n x k a ++ sums_from f taps n x (k + a) b
   unfolding sums_from
   sums-append n k zero b = rw (zero-add, add-zero)
   sums-append n k (suc a) b = rw (suc-add, add-suc) (ap (λ (l : List Float). sum_at f taps n x k ∷ l) (sums-append n (suc k) a b

@@ -103,20 +103,13 @@ pub(crate) fn make(form: Form, design: DesignRequest) -> Result<Designed, Refusa
     }
 }
 
-// What a refused design leaves: the blank record of its filter.
-pub(crate) fn blank_of(design: DesignRequest) -> Designed {
-    match design {
-        DesignRequest::Fir { .. } => Designed::Fir(TapRecord::blank()),
-        _ => Designed::Cascade(Cascade::blank()),
-    }
-}
-
 // Ready-made taps, in the form, as `sheet` takes them.
-pub(crate) fn ready_made(form: Form, coeffs: &[f64]) -> Result<TapRecord, Refusal> {
-    match form {
+pub(crate) fn ready_made(form: Form, coeffs: &[f64]) -> Result<Designed, Refusal> {
+    let made = match form {
         Form::Default => TapRecord::from_coeffs(coeffs),
         Form::Raw => TapRecord::from_coeffs_raw(coeffs),
-    }
+    };
+    made.map(Designed::Fir)
 }
 
 // Whether the stored refusal number, or 0, is the check's of the parameters. By default it may also be 25 where the check has

@@ -1,13 +1,13 @@
 // The filters that the requests run on, and the requests by kind.
 use crate::asked::MOST;
-use crate::designs::{blank_of, check_agrees, design_agrees, design_of, make, ready_made};
+use crate::designs::{check_agrees, design_agrees, design_of, make, ready_made};
 use crate::kinds::Kind;
 use crate::list::Request;
 use crate::pulses::pulse;
 use crate::records::{block, reset, step};
 use crate::rival::channel;
 use cascade::Cascade;
-use design_request::{Designed, design_in};
+use design_request::{DesignRequest, Records, design_in, records_of};
 use exports::Function;
 use fir::TapRecord;
 
@@ -41,9 +41,10 @@ impl Filters {
             return false;
         };
         let made = make(form, design);
-        match made.unwrap_or(blank_of(design)) {
-            Designed::Cascade(cascade) => self.cascade = cascade,
-            Designed::Fir(taps) => self.taps = taps,
+        let Records { cascade, filter } = records_of(made);
+        match design {
+            DesignRequest::Fir { .. } => self.taps = filter,
+            _ => self.cascade = cascade,
         }
         design_agrees(request.stored, made)
             && design_agrees(request.stored, design_in(form, design))
@@ -58,8 +59,8 @@ impl Filters {
         };
         let count = asked.0.len().min(MOST);
         let made = ready_made(form, &asked.numbers()[..count]);
-        self.taps = made.unwrap_or(TapRecord::blank());
-        design_agrees(request.stored, made.map(Designed::Fir))
+        self.taps = records_of(made).filter;
+        design_agrees(request.stored, made)
     }
 
     // Whether the request is answered as stored.

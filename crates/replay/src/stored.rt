@@ -1,7 +1,7 @@
 // Comparing an answer with the stored one, word by word.
 ghost use Rattle.std.specs.Iterator.{IsFinite};
 
-use runs::{Answer, Refusal, number_in};
+use runs::{Answer, Refusal, count_in, number_in};
 
 // A stored answer.
 #[derive(Clone, Copy)]
@@ -48,7 +48,7 @@ impl Stored<'_> {
         output: &[f64],
     ) -> bool {
         let refusal = u64::from(number_in(outcome));
-        let count = outcome.unwrap_or(0) as u64;
+        let count = count_in(outcome) as u64;
         self.agrees(&[refusal, count], output.iter().copied())
     }
 }

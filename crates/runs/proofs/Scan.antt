@@ -38,7 +38,7 @@ pub record Counting (numbers : List Float) (count i : ℕ) : Type 0 where
   pub few : count ≤ i
   pub tells : (ltb 0 count || not_all_finite (drop i numbers)) ≡ not_all_finite numbers
 
-at_most_one : (b : Bool) → from_bool (not b) ≤ 1
+pub at_most_one : (b : Bool) → from_bool (not b) ≤ 1
 at_most_one true = omega arith
 at_most_one false = omega arith
 

@@ -14,7 +14,7 @@ ghost use Rattle.runs.specs.Runs.{not_all_finite};
 pub use answer::Answer;
 pub use defaults::{Coefficients, by_default};
 pub use refusal::{Refusal, number_in, refuse_if};
-pub use results::{BlockResult, FilterRecord, ResetResult, UpdateResult};
+pub use results::{BlockResult, FilterRecord, ResetResult, UpdateResult, count_in};
 
 // Whether one of the numbers is an infinity or a NaN: such numbers are counted, with no way out of the loop as `any` has one, so
 // that the compiler can look at several at a time.

@@ -2,7 +2,7 @@
 // records that run as filters.
 ghost use Rattle.std.specs.Prelude.{◌≡◌};
 ghost use Rattle.runs.specs.Runs.{Filter, step, reset, block};
-ghost use Rattle.runs.specs.View.{updated_view, reset_view, block_view};
+ghost use Rattle.runs.specs.View.{count_in, updated_view, reset_view, block_view};
 
 use super::answer::Answer;
 use super::refusal::Refusal;
@@ -26,6 +26,13 @@ pub struct ResetResult<R> {
 pub struct BlockResult<R> {
     pub outcome: Result<usize, Refusal>,
     pub record: R,
+}
+
+// How many answers of a block were Clouded, or how many samples a channel has; a refused call counts 0.
+pub fn count_in(outcome: Result<usize, Refusal>) -> usize
+    ensures { result ≡ count_in outcome }
+{
+    outcome.unwrap_or(0)
 }
 
 // A record that runs as a filter. `theory` is the filter that it is, and `view` reads the record as that filter's state.

@@ -4,7 +4,7 @@ use super::fault::Fault;
 use super::parameters::{MOST, Parameters};
 use super::put::{put_floats, put_refused};
 use cascade::Cascade;
-use design_request::{DesignRequest, Designed, Form, design_in};
+use design_request::{DesignRequest, Designed, Form, Records, design_in, records_of};
 use fir::TapRecord;
 use runs::Refusal;
 use text_answers::Output;
@@ -101,22 +101,15 @@ fn put_taps(output: &mut Output, filter: &TapRecord) {
 }
 
 impl Answers<'_> {
-    // What was made replaces the record of its kind.
-    fn answer_made(&mut self, made: Result<Designed, Refusal>) {
+    fn put_made(&mut self, made: Result<Designed, Refusal>) {
         match made {
-            Ok(Designed::Cascade(cascade)) => {
-                put_cascade(&mut self.output, &cascade);
-                self.cascade = cascade;
-            }
-            Ok(Designed::Fir(filter)) => {
-                put_taps(&mut self.output, &filter);
-                self.filter = filter;
-            }
+            Ok(Designed::Cascade(cascade)) => put_cascade(&mut self.output, &cascade),
+            Ok(Designed::Fir(filter)) => put_taps(&mut self.output, &filter),
             Err(refusal) => put_refused(&mut self.output, refusal),
         }
     }
 
-    // A design. A refused one leaves a blank record.
+    // A design. The record that it returns replaces the one of its kind.
     pub(crate) fn answer_design(
         &mut self,
         form: Form,
@@ -124,15 +117,17 @@ impl Answers<'_> {
         parameters: Parameters,
     ) -> Result<(), Fault> {
         let request = request_of(word, parameters)?;
+        let made = design_in(form, request);
+        self.put_made(made);
+        let Records { cascade, filter } = records_of(made);
         match request {
-            DesignRequest::Fir { .. } => self.filter = TapRecord::blank(),
-            _ => self.cascade = Cascade::blank(),
+            DesignRequest::Fir { .. } => self.filter = filter,
+            _ => self.cascade = cascade,
         }
-        self.answer_made(design_in(form, request));
         Ok(())
     }
 
-    // Ready-made taps, refused ones alike.
+    // Ready-made taps. The record that they return replaces the current one.
     pub(crate) fn answer_taps(
         &mut self,
         form: Form,
@@ -149,8 +144,9 @@ impl Answers<'_> {
             Form::Default => TapRecord::from_coeffs(taps),
             Form::Raw => TapRecord::from_coeffs_raw(taps),
         };
-        self.filter = TapRecord::blank();
-        self.answer_made(made.map(Designed::Fir));
+        let made = made.map(Designed::Fir);
+        self.put_made(made);
+        self.filter = records_of(made).filter;
         Ok(())
     }
 }

@@ -6,13 +6,16 @@ use text_answers::Output;
 
 // The class, the rate, the number of samples, and the samples.
 pub(crate) fn answer_j211(mut parameters: Parameters, output: &mut Output) -> Result<(), Fault> {
-    if parameters.number() < 3 {
+    let number = parameters.number();
+    if number < 3 {
         return Err(Fault::TokenCount);
     }
     let class = parameters.count()?;
     let sample_rate = parameters.float()?;
     let n = parameters.length()?;
-    parameters.exactly(n)?;
+    if number != 3 + n {
+        return Err(Fault::TokenCount);
+    }
     let mut samples = [0.0; MOST];
     let places = &mut samples[..n];
     parameters.floats(places)?;

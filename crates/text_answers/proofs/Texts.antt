@@ -1,10 +1,8 @@
--- The loop that writes digits, and the zeros in front of a count.
+-- The loop that writes digits, the last one first, and the zeros in front of a count.
 use Rattle.std.proofs.Common.{ℕ, zero, suc, ◌+◌, ◌-◌, ◌/◌, ◌%◌, ◌^◌, ◌<◌, ◌≤◌, ◌≡◌, ◌∙◌, ◌⊎◌, refl, sym, ap, inl, inr, cond, not, List, [], ◌∷◌, ◌++◌, Bool}
-use Rattle.std.proofs.Common.{arith, add-one, append_assoc, length, take, drop, reverse, take_all, append-nil, slice_set, length-append, length-set}
+use Rattle.std.proofs.Common.{arith, add-one, append_assoc, length, take, drop, slice_set, length-append, length-set, not-suc-le-zero}
 use Rattle.std.proofs.lemmas.Bool.Decides.{nat_tests}
-use Rattle.std.proofs.lemmas.List.{take_rest}
-use Rattle.std.proofs.Math.Seq.{take-suc-set}
-use Rattle.std.proofs.lemmas.Grind.{reverse_onto}
+use Rattle.std.proofs.lemmas.List.{take_rest, drop-set}
 use Rattle.std.proofs.str.Laws.{order}
 use Rattle.std.specs.List.{position}
 use Rattle.std.specs.Option.{unwrap_or}
@@ -19,38 +17,25 @@ unfolding digits_of
 length_digits base zero n = refl
 length_digits base (suc k) n = rw (length-append, length_digits base k (n / base)) (add-one k)
 
--- the digits in the order of the loop
-pub from_last : ℕ → ℕ → ℕ → List ℕ
-from_last base zero n = []
-from_last base (suc k) n = glyph (n % base) ∷ from_last base k (n / base)
-
-turned : (base k n : ℕ) → reverse (from_last base k n) ≡ digits_of base k n
-unfolding from_last digits_of
-turned base zero n = refl
-turned base (suc k) n =
-    reverse_onto (from_last base k (n / base)) (glyph (n % base)) [] ∙ ap (λ (l : List ℕ). l ++ glyph (n % base) ∷ []) (turned base k (n / base))
-
--- those of rest are still to come
+-- the i digits of rest are still to come, in front of those that are written
 pub record Writing (base n k : ℕ) (text : List ℕ) (i rest : ℕ) : Type 0 where
   pub room : length text ≡ k
-  pub split : take i text ++ from_last base (k - i) rest ≡ from_last base k n
+  pub split : digits_of base i rest ++ drop i text ≡ digits_of base k n
 
-pub write-turn : (base n k : ℕ) (text : List ℕ) (i rest digit : ℕ) → i < k → digit ≡ glyph (rest % base) → Writing base n k text i rest
-    → Writing base n k (slice_set text i digit) (i + 1) (rest / base)
-unfolding from_last
-write-turn base n k text i rest digit h e p =
-    let left : k - i ≡ suc (k - suc i) = omega arith in
+pub write-turn : (base n k : ℕ) (text : List ℕ) (i rest digit : ℕ) → 0 < i → i ≤ k → digit ≡ glyph (rest % base) → Writing base n k text i rest
+    → Writing base n k (slice_set text (i - 1) digit) (i - 1) (rest / base)
+unfolding digits_of
+write-turn base n k text zero rest digit h l e p = absurd (not-suc-le-zero h)
+write-turn base n k text (suc i) rest digit h l e p =
+    let j : suc i - 1 ≡ i = omega arith in
     record {
-      room = length-set text i digit ∙ p.room;
-      split = rw (add-one, take-suc-set text i digit (omega (arith, p.room)), append_assoc, e) (rw left at p.split);
+      room = length-set text (suc i - 1) digit ∙ p.room;
+      split = rw (j, e, drop-set text i (glyph (rest % base)) (omega (arith, p.room)), add-one) (rw append_assoc at p.split);
     }
 
-pub write-done : (base n k : ℕ) (text : List ℕ) (i rest : ℕ) → k ≤ i → Writing base n k text i rest → reverse text ≡ digits_of base k n
-unfolding from_last
-write-done base n k text i rest h p =
-    let none : k - i ≡ 0 = omega arith in
-    let whole = rw (none, take_all i text (omega (arith, p.room)), append-nil) at p.split in
-    ap reverse whole ∙ turned base k n
+pub write-done : (base n k : ℕ) (text : List ℕ) (i rest : ℕ) → i ≡ 0 → Writing base n k text i rest → text ≡ digits_of base k n
+unfolding digits_of
+write-done base n k text i rest h p = rw h at p.split
 
 -- ---- the zeros in front of a count
 first_digit : (base k n : ℕ) → digits_of base (suc k) n ≡ glyph (n / base ^ k % base) ∷ digits_of base k n

@@ -22,17 +22,17 @@ fn glyph(d: u64) -> u8
     b"0123456789ABCDEF"[d as usize]
 }
 
-// The last N digits of n in a base.
+// The last N digits of n in a base, from the last one on. The places are counted: what is written through `iter_mut().rev()` is not
+// known behind the loop, and digits that are written in the other order and then reversed take longer (docs/SPEED.md).
 fn digits<const N: usize>(base: u64, mut n: u64) -> [u8; N]
     requires { (0 < base) × (base ≤ 16) }
     ensures { result ≡ digits_of base N n }
 {
     let mut text = [0; N];
-    for place in text.iter_mut() {
-        *place = glyph(n % base);
+    for i in (0..N).rev() {
+        text[i] = glyph(n % base);
         n /= base;
     }
-    text.reverse();
     text
 }
 

@@ -1,22 +1,14 @@
 -- What digits write: the loops over them, and how large it can be.
-use Rattle.std.proofs.Common.{ℕ, zero, suc, ◌+◌, ◌*◌, ◌^◌, ◌<◌, ◌≤◌, min, ◌≡◌, ◌∙◌, refl, sym, ap, List, [], ◌∷◌, ◌++◌, Option, None, Some}
+use Rattle.std.proofs.Common.{ℕ, zero, suc, ◌+◌, ◌*◌, ◌^◌, ◌<◌, ◌≤◌, min, ◌≡◌, ◌∙◌, refl, sym, ap, List, [], ◌∷◌, ◌++◌}
 use Rattle.std.proofs.Common.{arith, add-one, length, get_or, drop, drop-cons, drop_of_length-le}
 use native.Mathlib.Nat.{le_trans, le_of_eq, add_comm, add-mul, mul-suc, mul-le-mul_right, mul_assoc, le-mul_of_pos_right, one-le-pow, pow-succ'}
 use Rattle.std.proofs.lemmas.Bool.Decides.{nat_tests}
-use Rattle.std.specs.Char.{digit_value}
-use Rattle.std.specs.Option.{MatchOption, SomeIff}
 use Rattle.text_decimals.specs.Decimals.{digit, value_after}
 
 -- ---- a digit is at most 15
 pub digit-small : (b : ℕ) → digit b ≤ 15
 unfolding digit
 digit-small b = grind (arith, nat_tests)
-
--- what `to_digit` gives of a byte as a character, or 0 where it gives nothing
-pub digit_is : (b : ℕ) {c r : ℕ} (o : Option ℕ) → c ≡ b → SomeIff o (digit_value c < 16) (digit_value c) → MatchOption o (r ≡ 0) (λ x. r ≡ x) → r ≡ digit b
-unfolding digit
-digit_is b None h e f = grind (arith, nat_tests)
-digit_is b (Some x) h e f = grind (arith, nat_tests)
 
 -- ---- what digits write
 pub value-cons : (base n : ℕ) (ds : List ℕ) (i : ℕ) → i < length ds → value_after base n (drop i ds)

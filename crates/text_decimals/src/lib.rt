@@ -38,12 +38,18 @@ const POWERS_OF_TEN: [u64; 23] = [
     0x4480F0CF064DD592,
 ];
 
-// The value of a digit, and 0 of any other byte.
+// The value of a digit, and 0 of any other byte. By ranges of bytes: `to_digit` of a char takes longer (docs/SPEED.md).
+#[tactic(auto, using(std::proofs::lemmas::Bool::Decides::nat_tests), unfolding(crate::specs::Decimals::digit))]
 pub fn digit(b: u8) -> u64
     ensures value { result ≡ digit b }
     ensures small { result < 16 }
 {
-    char::from(b).to_digit(16).map_or(0, u64::from)
+    match b {
+        b'0'..=b'9' => u64::from(b - b'0'),
+        b'A'..=b'F' => u64::from(b - b'A') + 10,
+        b'a'..=b'f' => u64::from(b - b'a') + 10,
+        _ => 0,
+    }
 }
 
 // The number that decimal digits write after n, or LIMIT where it is that or more.
